@@ -1,0 +1,3 @@
+pub mod Synthetic
+pub mod Unique
+pub mod Base

@@ -1,0 +1,5 @@
+pub mod Polynomials
+pub mod Units
+pub mod Interpolation
+pub mod Digits
+pub mod Theorems

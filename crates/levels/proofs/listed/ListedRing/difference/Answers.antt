@@ -1,0 +1,12 @@
+use mathlib.Core.Path.{_∙_, sym}
+use Rattle.levels.specs.Residues.{residues}
+use Rattle.levels.proofs.Modular.{listed-laws}
+use Rattle.levels.proofs.Stored.{cell-right}
+use Rattle.levels.proofs.listed.ListedRing.difference.Needs as need
+
+pub returns : need.returns
+returns c =
+    let s = c .args .self .now .count in
+    let h = c .args .self .now .served in
+    let read = cell-right s h (λ s. residues s .difference) _ _ _ (c .args .a) (c .args .b) (c .cell .ensures .value) (c .row .ensures .value) tt in
+    record { value = read ∙ sym (listed-laws s h .sub-mod (c .args .a) (c .args .b)) }
