@@ -47,8 +47,8 @@ pub impl From<ArithmeticFault> for ListingFault as ListingFaultFromArithmetic {
 pub impl From<PlanFault> for ListingFault as ListingFaultFromPlan {
     ghost converts = { λ f r. r ≡ Plan f };
 
-    fn from(fault: PlanFault) -> ListingFault {
-        ListingFault::Plan(fault)
+    fn from(refused: PlanFault) -> ListingFault {
+        ListingFault::Plan(refused)
     }
 }
 
