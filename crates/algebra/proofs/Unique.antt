@@ -75,7 +75,7 @@ module _ {R : Arithmetic} (L : RingLaws R) (inv : ℕ → ℕ) where
       let q = eval R (quot R x p) y in
       let q′ = eval R (quot R x p′) y in
       let sums : R .sum (R .product d q) (eval R p x) ≡ R .sum (R .product d q′) (eval R p x) =
-        cc (divide L x y hy p, divide L x y hy p′, L .add-comm (R .product d q) (eval R p x), L .add-comm (R .product d q′) (eval R p x)) in
+      cc (divide L x y hy p, divide L x y hy p′, L .add-comm (R .product d q) (eval R p x), L .add-comm (R .product d q′) (eval R p x)) in
       mul-cancel L d (inv d) q q′ (eval-code L (quot R x p) y) (eval-code L (quot R x p′) y) u
       (cancel L (R .product d q) (R .product d q′) (eval R p x) (L .mul-code d q) (L .mul-code d q′) sums)
 
@@ -96,12 +96,12 @@ module _ {R : Arithmetic} (L : RingLaws R) (inv : ℕ → ℕ) where
       let p = c ∷ cs in
       let p′ = c′ ∷ cs′ in
       let rest = same xs (quot R x p) (quot R x p′) (omega (arith, length-quot L x c cs)) (omega (arith, length-quot L x c′ cs′)) (hx .1) (a .1)
-        (codes-quot L x p) (codes-quot L x p′) (agree x p p′ xs (hx .1) (a .0) (head-eq-of-cons-eq e) (tail-eq-of-cons-eq e)) in
+      (codes-quot L x p) (codes-quot L x p′) (agree x p p′ xs (hx .1) (a .0) (head-eq-of-cons-eq e) (tail-eq-of-cons-eq e)) in
       sym (rebuild-quot L x c cs k) ∙ ap₂ (rebuild R x) (head-eq-of-cons-eq e) rest ∙ rebuild-quot L x c′ cs′ k′
 
 pub interpolates : Interpolates
 interpolates =
     record {
       takes = λ R L inv xs vs hx hv a e. record { sized = length-interp L inv xs vs e; codes = codes-interp L inv xs vs hv; values = values-interp L inv xs vs hx hv a e };
-      alone = λ R L inv xs vs hx a p q tp tq. same L inv xs p q (tp .sized) (tq .sized) hx a (tp .codes) (tq .codes) (tp .values ∙ sym (tq .values))
+      alone = λ R L inv xs vs hx a p q tp tq. same L inv xs p q (tp .sized) (tq .sized) hx a (tp .codes) (tq .codes) (tp .values ∙ sym (tq .values));
     }

@@ -75,7 +75,7 @@ accepted input text q l p o e =
       reads = subst (Parsed input) (o .request) p;
       plan = l .strip .plan;
       planned = o .planned;
-      lines = e ∙ ap₂ (λ R W. headerText (l .request) ++ rowsText (l .strip .plan) R W (l .strip .plan .labels)) (o .ring) (o .ways)
+      lines = e ∙ ap₂ (λ R W. headerText (l .request) ++ rowsText (l .strip .plan) R W (l .strip .plan .labels)) (o .ring) (o .ways);
     })
 
 pub turned : (input text : List ℕ) (q : Option Request) (f : ListingFault) (s : Slip) → Parsed input q → refusal (listingRows q) ≡ Some (listingSlip f) → s ≡ listingSlip f

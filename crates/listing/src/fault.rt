@@ -28,7 +28,11 @@ pub impl Fault for ListingFault as ListingFaultFault {
 
     fn slip(&self) -> Slip {
         match self {
-            ListingFault::Malformed => Slip { number: 18, layer: Layer::Listing, place: 0 },
+            ListingFault::Malformed => Slip {
+                number: 18,
+                layer: Layer::Listing,
+                place: 0,
+            },
             ListingFault::Arithmetic(fault) => fault.slip(),
             ListingFault::Plan(fault) => fault.slip(),
             ListingFault::Strip(fault) => fault.slip(),

@@ -55,9 +55,18 @@ impl Listing {
             return Err(ListingFault::Malformed);
         };
         let ring = AnyRing::of(request.levels)?;
-        let plan = Plan::new(request.levels, request.strength, request.factors, request.seed)?;
+        let plan = Plan::new(
+            request.levels,
+            request.strength,
+            request.factors,
+            request.seed,
+        )?;
         let shuffler = shuffler_named(request.shuffler);
-        let strip = Strip { plan, ring, shuffler };
+        let strip = Strip {
+            plan,
+            ring,
+            shuffler,
+        };
         Ok(Listing { request, strip })
     }
 

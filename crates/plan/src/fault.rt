@@ -30,6 +30,10 @@ pub impl Fault for PlanFault as PlanFaultFault {
             PlanFault::Undivided => 4,
             PlanFault::Labels => 5,
         };
-        Slip { number, layer: Layer::Plan, place: 0 }
+        Slip {
+            number,
+            layer: Layer::Plan,
+            place: 0,
+        }
     }
 }

@@ -25,7 +25,13 @@ impl Plan {
             return Err(PlanFault::Undivided);
         }
         match power(levels, strength) {
-            Some(labels) => Ok(Plan { levels, strength, factors, seed, labels }),
+            Some(labels) => Ok(Plan {
+                levels,
+                strength,
+                factors,
+                seed,
+                labels,
+            }),
             None => Err(PlanFault::Labels),
         }
     }

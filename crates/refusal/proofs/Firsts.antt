@@ -39,7 +39,7 @@ given-only (r ∷ rs) ri s e = ⊎-elim here (λ f. later f (given-only rs (ri .
         let is : r .slip ≡ s = cc in
         record {
           holds = inl (is, t);
-          smallest = ((λ l. absurd (omega (arith, ap (λ (x : Slip). x .number) is))), subst (λ (x : Slip). All (λ q. q .slip .number < x .number → q .holds ≡ false) rs) is (none-smaller rs (r .slip .number) (ri .0)))
+          smallest = ((λ l. absurd (omega (arith, ap (λ (x : Slip). x .number) is))), subst (λ (x : Slip). All (λ q. q .slip .number < x .number → q .holds ≡ false) rs) is (none-smaller rs (r .slip .number) (ri .0)));
         }
 
     later : r .holds ≡ false → Given rs s → Given (r ∷ rs) s

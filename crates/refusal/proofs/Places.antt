@@ -48,10 +48,10 @@ first-least f (suc n) j h = step (λ l. first-least f n j l) h
         cond-both (ltb (first f n) n) (first f n) (cond (f n) n (suc n)) (λ z. j < z → f j ≡ false)
         (λ e. before)
         (λ e.
-          let all : n ≤ first f n = ltb-false (first f n) n e in
-          cond-both (f n) n (suc n) (λ z. j < z → f j ≡ false)
-          (λ t l. before (omega arith))
-          (λ t l. ⊎-elim (λ q. before (omega arith)) (λ q. let is : n ≡ j = omega arith in subst (λ z. f z ≡ false) is t) (cases-lt j n)))
+        let all : n ≤ first f n = ltb-false (first f n) n e in
+        cond-both (f n) n (suc n) (λ z. j < z → f j ≡ false)
+        (λ t l. before (omega arith))
+        (λ t l. ⊎-elim (λ q. before (omega arith)) (λ q. let is : n ≡ j = omega arith in subst (λ z. f z ≡ false) is t) (cases-lt j n)))
 
 -- where there is no place below n, f holds nowhere below n
 pub none-below : (f : ℕ → Bool) (n : ℕ) → first f n ≡ n → (j : ℕ) → j < n → f j ≡ false

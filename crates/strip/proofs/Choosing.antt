@@ -27,9 +27,10 @@ placed-all Q (w ∷ ws) a (suc k) h = placed-all Q ws (a .1) k (omega arith)
 
 apart-placed : (ws : List Wish) → ((m k : ℕ) → m < k → k < length ws → factorOf ws m ≢ factorOf ws k) → Apart ws
 apart-placed [] h = tt
-apart-placed (w ∷ ws) h =
-    ( all-placed (λ v. v .factor ≢ w .factor) ws (λ k l e. h 0 (suc k) (omega arith) (omega arith) (sym e))
-    , apart-placed ws (λ m k l n. h (suc m) (suc k) (omega arith) (omega arith)) )
+apart-placed (w ∷ ws) h = (
+  all-placed (λ v. v .factor ≢ w .factor) ws (λ k l e. h 0 (suc k) (omega arith) (omega arith) (sym e)),
+  apart-placed ws (λ m k l n. h (suc m) (suc k) (omega arith) (omega arith)),
+)
 
 pub chosen : (P : Plan) (ws : List Wish)
     → first (λ k. leb (P .factors) (factorOf ws k)) (length ws) ≡ length ws
@@ -42,7 +43,7 @@ chosen P ws f l t r =
       sized = t;
       factors = all-placed (λ w. w .factor < P .factors) ws (λ k h. leb-false (P .factors) (factorOf ws k) (none-below (λ k. leb (P .factors) (factorOf ws k)) (length ws) f k h));
       levels = all-placed (λ w. w .level < P .levels) ws (λ k h. leb-false (P .levels) (levelOf ws k) (none-below (λ k. leb (P .levels) (levelOf ws k)) (length ws) l k h));
-      apart = apart-placed ws (λ m k q h. apart m k q (none-below (repeats ws) (length ws) r k h))
+      apart = apart-placed ws (λ m k q h. apart m k q (none-below (repeats ws) (length ws) r k h));
     }
   where
     apart : (m k : ℕ) → m < k → repeats ws k ≡ false → factorOf ws m ≢ factorOf ws k

@@ -40,9 +40,10 @@ module _ (P : Plan) {R : Arithmetic} {W : Ways} (L : RingLaws R) (M : ShuffleLaw
 
   values-codes : (ws : List Wish) → All (λ w. w .level < P .levels) ws → Codes R (valuesOf P W ws)
   values-codes [] h = tt
-  values-codes (w ∷ ws) h =
-      ( subst (λ s. W .back (levelKey (P .seed) (w .factor)) (P .levels) (w .level) < s) (sym counts) (M .back-below _ _ _ (key-fits _ (P .seed) (w .factor)) (h .0))
-      , values-codes ws (h .1) )
+  values-codes (w ∷ ws) h = (
+    subst (λ s. W .back (levelKey (P .seed) (w .factor)) (P .levels) (w .level) < s) (sym counts) (M .back-below _ _ _ (key-fits _ (P .seed) (w .factor)) (h .0)),
+    values-codes ws (h .1),
+  )
 
   -- different codes differ by a code other than 0
   different : (x y : ℕ) → x < R .count → y < R .count → y ≢ x → 0 < R .difference y x
@@ -54,11 +55,12 @@ module _ (P : Plan) {R : Arithmetic} {W : Ways} (L : RingLaws R) (M : ShuffleLaw
     apart-from : (w : Wish) (ws : List Wish) → w .factor < P .factors → All (λ v. v .factor < P .factors) ws → All (λ v. v .factor ≢ w .factor) ws
         → All (λ y. R .product (R .difference y (point (w .factor))) (inv (R .difference y (point (w .factor)))) ≡ R .one) (pointsOf ws)
     apart-from w [] h hs ne = tt
-    apart-from w (v ∷ vs) h hs ne =
-        ( D (R .difference (v .factor) (w .factor))
+    apart-from w (v ∷ vs) h hs ne = (
+      D (R .difference (v .factor) (w .factor))
           (different (w .factor) (v .factor) (omega (arith, P .named, counts)) (omega (arith, hs .0, P .named, counts)) (ne .0))
-          (L .sub-code (v .factor) (w .factor))
-        , apart-from w vs h (hs .1) (ne .1) )
+          (L .sub-code (v .factor) (w .factor)),
+      apart-from w vs h (hs .1) (ne .1),
+    )
 
     points-apart : (ws : List Wish) → All (λ w. w .factor < P .factors) ws → Apart ws → units.Apart R inv (pointsOf ws)
     points-apart [] h a = tt
@@ -78,10 +80,11 @@ module _ (P : Plan) {R : Arithmetic} {W : Ways} (L : RingLaws R) (M : ShuffleLaw
         → All (λ w. levelAt P R W n (w .factor) ≡ w .level) ws
     unfolding levelAt
     values-meet n [] e = tt
-    values-meet n (w ∷ ws) e =
-        ( out-of-back M (levelKey (P .seed) (w .factor)) (P .levels) (key-fits _ (P .seed) (w .factor)) _ _
-          (sym (value-eval L (P .strength) n (point (w .factor)) ∙ head-eq-of-cons-eq e))
-        , values-meet n ws (tail-eq-of-cons-eq e) )
+    values-meet n (w ∷ ws) e = (
+      out-of-back M (levelKey (P .seed) (w .factor)) (P .levels) (key-fits _ (P .seed) (w .factor)) _ _
+          (sym (value-eval L (P .strength) n (point (w .factor)) ∙ head-eq-of-cons-eq e)),
+      values-meet n ws (tail-eq-of-cons-eq e),
+    )
 
     module _ (ws : List Wish) (C : Chosen P ws) where
       coefficients : List ℕ
@@ -120,8 +123,8 @@ module _ (P : Plan) {R : Arithmetic} {W : Ways} (L : RingLaws R) (M : ShuffleLaw
       place-alone n h m =
           let q : List ℕ = digits (R .count) (P .strength) n in
           let same : q ≡ coefficients = interpolates .alone R L inv (pointsOf ws) (valuesOf P W ws) (points-codes ws (C .factors)) (points-apart ws (C .factors) (C .apart)) q coefficients
-            (record { sized = length-digits (R .count) (P .strength) n ∙ sym many; codes = codes-digits (R .count) (P .strength) n (zero-code L); values = meets-values n ws m })
-            takes in
+          (record { sized = length-digits (R .count) (P .strength) n ∙ sym many; codes = codes-digits (R .count) (P .strength) n (zero-code L); values = meets-values n ws m })
+          takes in
           sym (number-digits (R .count) (P .strength) n (zero-code L) (subst (λ z. n < z) labels-power h)) ∙ ap (number (R .count)) same
 
       place-is : place ≡ placeFor P R inv W ws
@@ -137,7 +140,7 @@ module _ (P : Plan) {R : Arithmetic} {W : Ways} (L : RingLaws R) (M : ShuffleLaw
           (record {
             below = M .back-below (P .seed) (P .labels) place (P .keyed) place-below;
             meets = subst (λ n. All (λ w. levelAt P R W n (w .factor) ≡ w .level) ws) (sym (index-back P L M counts place)) place-meets;
-            alone = λ k h m. back-index P L M counts k place (place-alone (index P W k) (index-below P L M counts k h) m)
+            alone = λ k h m. back-index P L M counts k place (place-alone (index P W k) (index-below P L M counts k h) m);
           })
 
     pub names : Names P R W

@@ -61,7 +61,7 @@ interp-placed R inv (w ∷ ws) (v ∷ vs) ds cs rs k e n d i r =
     let once : putMid 1 k (v ∷ vs) ds ≡ v ∷ ds = put-tail k v vs ds (omega arith) in
     let len : k ≡ length ds = omega (arith, length-slopes R inv x v (pointsOf ws) vs (length-map ws (λ w. point (w .factor)) ∙ omega arith), length-map ws (λ w. point (w .factor)), ap length ds-is) in
     let cs-is : cs ≡ interp R inv (pointsOf ws) ds =
-      i ∙ ap₂ (λ a b. interp R inv (pointsOf a) b) tw (ap (λ zs. take k (drop 1 zs)) once ∙ part-tail k v ds len) in
+    i ∙ ap₂ (λ a b. interp R inv (pointsOf a) b) tw (ap (λ zs. take k (drop 1 zs)) once ∙ part-tail k v ds len) in
     let twice : putMid 1 k (putMid 1 k (v ∷ vs) ds) cs ≡ v ∷ cs = ap (λ zs. putMid 1 k zs cs) once ∙ put-tail k v ds cs len in
     r v cs twice ∙ ap (rebuild R x v) (cs-is ∙ ap (interp R inv (pointsOf ws)) ds-is)
 

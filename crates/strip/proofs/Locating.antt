@@ -100,9 +100,9 @@ module _ (P : Plan) {R : Arithmetic} {W : Ways} (L : RingLaws R) (M : ShuffleLaw
         let value : valueAt R (P .strength) n (point j) ≡ valueOf P W j f = sym (back-of-out M (levelKey (P .seed) j) (P .levels) (key-fits _ (P .seed) j) _ _ lev) in
         let high : n / P .levels ≡ highOf P W j f = sym (back-of-out M (fineKey (P .seed) j) m (key-fits _ (P .seed) j) _ _ fin) in
         let sums : R .sum (n % P .levels) (restOf P R W j f) ≡ valueOf P W j f =
-          ap (λ b. R .sum (n % P .levels) (R .product (point j) (valueAt R (P .strength - 1) b (point j)))) (sym high) ∙ sym (value-split n (point j)) ∙ value in
+        ap (λ b. R .sum (n % P .levels) (R .product (point j) (valueAt R (P .strength - 1) b (point j)))) (sym high) ∙ sym (value-split n (point j)) ∙ value in
         let low : R .difference (valueOf P W j f) (restOf P R W j f) ≡ n % P .levels =
-          sub-intro L (n % P .levels) (valueOf P W j f) (restOf P R W j f) (subst (λ s. n % P .levels < s) (sym counts) (mod-lt n some-levels)) sums in
+        sub-intro L (n % P .levels) (valueOf P W j f) (restOf P R W j f) (subst (λ s. n % P .levels < s) (sym counts) (mod-lt n some-levels)) sums in
         sym (div-add-mod' n (P .levels)) ∙ ap₂ (λ a b. a * P .levels + b) high (sym low)
 
     pub located : Located P R W j f (W .back (P .seed) (P .labels) (placeOf P R W j f))
@@ -110,7 +110,7 @@ module _ (P : Plan) {R : Arithmetic} {W : Ways} (L : RingLaws R) (M : ShuffleLaw
         record {
           below = M .back-below (P .seed) (P .labels) (placeOf P R W j f) (P .keyed) place-below;
           meets = ap (λ n. fineAt P R W n j) (index-back (placeOf P R W j f)) ∙ fine-there;
-          alone = λ k l e. back-index k (placeOf P R W j f) (place-alone (index P W k) (index-below k l) e)
+          alone = λ k l e. back-index k (placeOf P R W j f) (place-alone (index P W k) (index-below k l) e);
         }
 
   pub names-fine : NamesFine P R W

@@ -31,12 +31,12 @@ module _ {P : Plan} {R : Arithmetic} {W : Ways} where
   row-written label at xs ys e row before behind =
       record {
         cells = λ k j hk hj.
-          let z : k ≡ 0 = omega arith in
-          subst (λ k. getD ys (at + (k * P .factors + j)) blank ≡ cellAt P R W (index P W (label + k)) j) (sym z)
-          (rw (zero-mul (P .factors), zero-add j, add-zero label) (row j hj));
+            let z : k ≡ 0 = omega arith in
+            subst (λ k. getD ys (at + (k * P .factors + j)) blank ≡ cellAt P R W (index P W (label + k)) j) (sym z)
+            (rw (zero-mul (P .factors), zero-add j, add-zero label) (row j hj));
         under = before;
         over = λ p h. behind p (omega (arith, one-mul (P .factors)));
-        sized = e
+        sized = e;
       }
 
   -- one row more
@@ -45,16 +45,16 @@ module _ {P : Plan} {R : Arithmetic} {W : Ways} where
   rows-more first k start xs ys zs a b =
       record {
         cells = λ m j hm hj. ⊎-elim
-          (λ l. b .under (start + (m * P .factors + j)) (omega (arith, digits-lt {q = m} {m = k} {r = j} {c = P .factors} l hj)) ∙ a .cells m j l hj)
-          (λ l.
+            (λ l. b .under (start + (m * P .factors + j)) (omega (arith, digits-lt {q = m} {m = k} {r = j} {c = P .factors} l hj)) ∙ a .cells m j l hj)
+            (λ l.
             let z : m ≡ k = omega arith in
             subst (λ m. getD zs (start + (m * P .factors + j)) blank ≡ cellAt P R W (index P W (first + m)) j) (sym z) (last j hj))
-          (cases-lt m k);
+            (cases-lt m k);
         under = λ p h. b .under p (omega arith) ∙ a .under p h;
         over = λ p h.
-          let more : (k + 1) * P .factors ≡ k * P .factors + 1 * P .factors = add-mul k 1 (P .factors) in
-          b .over p (omega arith) ∙ a .over p (omega arith);
-        sized = b .sized ∙ a .sized
+            let more : (k + 1) * P .factors ≡ k * P .factors + 1 * P .factors = add-mul k 1 (P .factors) in
+            b .over p (omega arith) ∙ a .over p (omega arith);
+        sized = b .sized ∙ a .sized;
       }
     where
       last : (j : ℕ) → j < P .factors → getD zs (start + (k * P .factors + j)) blank ≡ cellAt P R W (index P W (first + k)) j
@@ -70,11 +70,11 @@ module _ {P : Plan} {R : Arithmetic} {W : Ways} where
   part-written first count start xs ys fits w =
       record {
         cells = λ k j hk hj.
-          inside (k * P .factors + j) (digits-lt {q = k} {m = count} {r = j} {c = P .factors} hk hj)
-          ∙ ap (λ p. getD ys p blank) (sym (zero-add (k * P .factors + j))) ∙ w .cells k j hk hj;
+            inside (k * P .factors + j) (digits-lt {q = k} {m = count} {r = j} {c = P .factors} hk hj)
+            ∙ ap (λ p. getD ys p blank) (sym (zero-add (k * P .factors + j))) ∙ w .cells k j hk hj;
         under = λ p h. getD-append-left (take start xs) (ys ++ drop cells (drop start xs)) blank p (omega (arith, front)) ∙ getD-take start xs p blank h;
         over = behind;
-        sized = same-len-mid start cells xs ys (w .sized)
+        sized = same-len-mid start cells xs ys (w .sized);
       }
     where
       cells : ℕ

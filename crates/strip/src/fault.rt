@@ -36,6 +36,10 @@ pub impl Fault for StripFault as StripFaultFault {
             StripFault::Wishes => (11, 0),
             StripFault::Repeated(k) => (12, k),
         };
-        Slip { number, layer: Layer::Strip, place }
+        Slip {
+            number,
+            layer: Layer::Strip,
+            place,
+        }
     }
 }

@@ -181,7 +181,11 @@ impl<R: Dividing, S: Shuffler> Strip<R, S> {
     {
         for k in 0..wishes.len() {
             let wish = wishes[k];
-            values[k] = self.shuffler.back(level_key(self.plan.seed, wish.factor), self.plan.levels, wish.level);
+            values[k] = self.shuffler.back(
+                level_key(self.plan.seed, wish.factor),
+                self.plan.levels,
+                wish.level,
+            );
         }
     }
 }

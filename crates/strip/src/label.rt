@@ -56,7 +56,8 @@ impl<R: Ring, S: Shuffler> Strip<R, S> {
     {
         let plan = self.plan;
         let value = value(&self.ring, plan.strength, n, point(factor));
-        self.shuffler.out(level_key(plan.seed, factor), plan.levels, value)
+        self.shuffler
+            .out(level_key(plan.seed, factor), plan.levels, value)
     }
 
     // The sub-level of what stands at n before shuffling, for a factor.
@@ -67,7 +68,11 @@ impl<R: Ring, S: Shuffler> Strip<R, S> {
         ensures below { λ r. ⌜ r < now (self .entry) .plan .labels / now (self .entry) .plan .levels ⌝ }
     {
         let plan = self.plan;
-        self.shuffler.out(fine_key(plan.seed, factor), plan.labels / plan.levels, n / plan.levels)
+        self.shuffler.out(
+            fine_key(plan.seed, factor),
+            plan.labels / plan.levels,
+            n / plan.levels,
+        )
     }
 
     // The cell of what stands at n before shuffling, for a factor.
@@ -80,6 +85,9 @@ impl<R: Ring, S: Shuffler> Strip<R, S> {
         let level = self.level_at(n, factor);
         let sublevel = self.sublevel_at(n, factor);
         let fine = level * (self.plan.labels / self.plan.levels) + sublevel;
-        Cell { level: level as u8, fine: fine as u16 }
+        Cell {
+            level: level as u8,
+            fine: fine as u16,
+        }
     }
 }

@@ -28,11 +28,17 @@ impl<R: Ring, S: Shuffler> Strip<R, S> {
             return Err(StripFault::Setting(0));
         }
         let size = plan.labels / plan.levels;
-        let whole = self.shuffler.back(level_key(plan.seed, factor), plan.levels, fine / size);
-        let high = self.shuffler.back(fine_key(plan.seed, factor), size, fine % size);
+        let whole = self.shuffler
+            .back(level_key(plan.seed, factor), plan.levels, fine / size);
+        let high = self.shuffler
+            .back(fine_key(plan.seed, factor), size, fine % size);
         let x = point(factor);
-        let rest = self.ring.product(x, value(&self.ring, plan.strength - 1, high, x));
+        let rest = self.ring
+            .product(x, value(&self.ring, plan.strength - 1, high, x));
         let low = self.ring.difference(whole, rest);
-        Ok(self.shuffler.back(plan.seed, plan.labels, high * plan.levels + low))
+        Ok(
+            self.shuffler
+                .back(plan.seed, plan.labels, high * plan.levels + low),
+        )
     }
 }

@@ -14,7 +14,13 @@ use shuffle::Shuffler;
 
 impl<R: Ring, S: Shuffler> Strip<R, S> {
     // Writes the cells of `count` labels from `first` on, one row after the other, into the table from the cell `start` on.
-    pub fn rows(&self, first: u32, count: u32, table: &mut [Cell], start: usize) -> Result<(), StripFault>
+    pub fn rows(
+        &self,
+        first: u32,
+        count: u32,
+        table: &mut [Cell],
+        start: usize,
+    ) -> Result<(), StripFault>
         ensures answer { λ r. ⌜ Answers stripSlip (rowsRows (now (self .entry) .plan) (R·Ring .ring (now (self .entry) .ring)) first count start (length (now (table .entry)))) (λ _. Written (now (self .entry) .plan) (R·Ring .ring (now (self .entry) .ring)) (S·Shuffler .ways (now (self .entry) .shuffler)) first count start (now (table .entry)) (now (table .exit))) r ⌝ }
         ensures same { λ r. ⌜ Cases r (λ _. Unit {0}) (λ _. now (table .exit) ≡ now (table .entry)) ⌝ }
     {

@@ -2,8 +2,8 @@
 ghost use Prim.Native.Nat.{_≤_};
 ghost use lib.ListN.{length};
 ghost use Rattle.std.specs.Vec.{made};
-use listing::fault::ListingFaultFault;
 use listing::fault::LineFault;
+use listing::fault::ListingFaultFault;
 use listing::listing::Listing;
 use listing_text::lines::push_refused;
 use listing_text::request::Request;

@@ -9,7 +9,49 @@ use Rattle.worked.proofs.tabulated.Needs as need
 
 pub returns : need.returns
 unfolding leadingZeros mask shift fold step1 step2 step3 step4 step5 round until scramble remainder divided multiplied degree index valueAt levelAt sublevelAt fineAt
-returns c =
-    ( refl, ( refl, ( refl, ( refl, ( refl, ( refl
-    , ( refl, ( refl, ( refl, ( refl, ( refl, ( refl, ( refl, ( refl, ( refl
-    , ( refl, ( refl, tt ))))))))))))))))) 
+returns c = (
+  refl,
+  (
+    refl,
+    (
+      refl,
+      (
+        refl,
+        (
+          refl,
+          (
+            refl,
+            (
+              refl,
+              (
+                refl,
+                (
+                  refl,
+                  (
+                    refl,
+                    (
+                      refl,
+                      (
+                        refl,
+                        (
+                          refl,
+                          (
+                            refl,
+                            (
+                              refl,
+                              (refl, (refl, tt)),
+                            ),
+                          ),
+                        ),
+                      ),
+                    ),
+                  ),
+                ),
+              ),
+            ),
+          ),
+        ),
+      ),
+    ),
+  ),
+)

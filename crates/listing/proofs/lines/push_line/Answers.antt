@@ -16,7 +16,7 @@ pub returns-in-Break-push-setting : need.returns-in-Break-push-setting
 returns-in-Break-push-setting c =
     record {
       text = along (c .in-Continue-push-label .ensures tt .text)
-          (loop-stops cellText (c .args .cells .now) (c .loop-cell .inv) _ blank (c .loop-cell-test .taken) (c .from-residual-in-Break-push-setting .result) (c .from-residual-in-Break-push-setting .ensures .0) (c .in-Break-push-setting .ensures tt .text))
+          (loop-stops cellText (c .args .cells .now) (c .loop-cell .inv) _ blank (c .loop-cell-test .taken) (c .from-residual-in-Break-push-setting .result) (c .from-residual-in-Break-push-setting .ensures .0) (c .in-Break-push-setting .ensures tt .text));
     }
 
 pub returns : need.returns

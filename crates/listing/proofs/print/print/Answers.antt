@@ -19,10 +19,10 @@ returns c =
           let l = w .in-Ok .listing in
           accepted (c .args .input .now) (string-bytes (c .match-open .out)) (o .0) l (o .1) (o .2 .1)
           (ap string-bytes (w .out-is)
-           ∙ from-empty (string-bytes (w .push-all .last .out)) (string-bytes (c .new-out .result)) (wholeOf l (l .strip .plan .labels)) (c .new-out .ensures .bytes) (w .in-Continue-push-all .ensures tt))
+          ∙ from-empty (string-bytes (w .push-all .last .out)) (string-bytes (c .new-out .result)) (wholeOf l (l .strip .plan .labels)) (c .new-out .ensures .bytes) (w .in-Continue-push-all .ensures tt))
       | in-Err·in-Continue-push-refused w ↦
           let o = w .in-Err .ensures tt in
           turned (c .args .input .now) (string-bytes (c .match-open .out)) (o .0) (w .in-Err .fault) (w .slip .result) (o .1) (o .2) (w .slip .ensures)
           (ap string-bytes (w .out-is)
-           ∙ from-empty (string-bytes (w .push-refused .last .out)) (string-bytes (c .new-out .result)) (refusedText (w .slip .result .number)) (c .new-out .ensures .bytes) (w .in-Continue-push-refused .ensures tt .text .whole refl))
+          ∙ from-empty (string-bytes (w .push-refused .last .out)) (string-bytes (c .new-out .result)) (refusedText (w .slip .result .number)) (c .new-out .ensures .bytes) (w .in-Continue-push-refused .ensures tt .text .whole refl))
     ]

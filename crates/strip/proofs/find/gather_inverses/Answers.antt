@@ -13,8 +13,8 @@ loop-a-again g c a h low high =
     ⊎-elim
     (λ l. c .loop-a .inv a l low high)
     (λ l.
-      let is : c .loop-a .a ≡ a = omega arith in
-      let own : c .loop-a .a % R .count ≡ c .loop-a .a = mod-eq-of-lt (subst (λ z. z < R .count) (sym is) high) in
-      subst (λ z. R .product z (inv z) ≡ R .one) is
-      (c .inverse .ensures .unit .unit (omega arith)))
+    let is : c .loop-a .a ≡ a = omega arith in
+    let own : c .loop-a .a % R .count ≡ c .loop-a .a = mod-eq-of-lt (subst (λ z. z < R .count) (sym is) high) in
+    subst (λ z. R .product z (inv z) ≡ R .one) is
+    (c .inverse .ensures .unit .unit (omega arith)))
     (cases-lt a (c .loop-a .a))

@@ -13,7 +13,7 @@ returns-then-wishes-m c =
     let ws = c .args .wishes .now in
     let k : ℕ = c .args .k in
     let found = first-here (λ m. eqb (factorOf ws m) (factorOf ws k)) k (c .loop-m .m) (omega arith) (c .loop-m .inv)
-      (eq-eqb (factorOf ws (c .loop-m .m)) (factorOf ws k) (c .if-wishes-m .taken)) in
+    (eq-eqb (factorOf ws (c .loop-m .m)) (factorOf ws k) (c .if-wishes-m .taken)) in
     sym (lt-ltb (first (λ m. eqb (factorOf ws m) (factorOf ws k)) k) k (omega arith))
 
 pub returns : need.returns

@@ -14,5 +14,5 @@ returns g c v q e =
     let len : length (c .args .values .now) ≡ suc (length q) = ap length e in
     rebuild-placed R (c .args .x) v q ys (omega arith)
     (λ k h. subst (λ xs. getD ys k 0 ≡ R .difference (getD xs k 0) (R .product (c .args .x) (getD xs (suc k) 0))) e
-      (subst (λ m. getD ys k 0 ≡ R .difference (getD (c .args .values .now) k 0) (R .product (c .args .x) (getD (c .args .values .now) m 0))) (add-one k) (c .loop-k .inv .0 k (omega arith))))
+    (subst (λ m. getD ys k 0 ≡ R .difference (getD (c .args .values .now) k 0) (R .product (c .args .x) (getD (c .args .values .now) m 0))) (add-one k) (c .loop-k .inv .0 k (omega arith))))
     (subst (λ xs. getD ys (length q) 0 ≡ getD xs (length q) 0) e (c .loop-k .inv .1 (length q) (omega arith)))

@@ -7,9 +7,10 @@ use Rattle.strip.proofs.find.repeated.Needs as need
 
 pub returns-then-named-before : need.returns-then-named-before
 returns-then-named-before c =
-    let ws = c .args .wishes .now in
-    ( omega arith
-    , first-here (repeats ws) (length ws) (c .loop-k .k) (omega arith) (c .loop-k .inv) (sym (c .named-before .ensures) ∙ c .if-named-before .taken) )
+    let ws = c .args .wishes .now in (
+      omega arith,
+      first-here (repeats ws) (length ws) (c .loop-k .k) (omega arith) (c .loop-k .inv) (sym (c .named-before .ensures) ∙ c .if-named-before .taken),
+    )
 
 pub returns : need.returns
 returns c =

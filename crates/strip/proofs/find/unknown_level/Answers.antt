@@ -8,10 +8,11 @@ use Rattle.strip.proofs.find.unknown_level.Needs as need
 
 pub returns-then-wish-levels : need.returns-then-wish-levels
 returns-then-wish-levels c =
-    let ws = c .args .wishes .now in
-    ( omega arith
-    , first-here (λ k. leb (c .args .levels) (levelOf ws k)) (length ws) (c .loop-k .k) (omega arith) (c .loop-k .inv)
-      (le-leb (c .args .levels) (levelOf ws (c .loop-k .k)) (c .if-wish-levels .taken)) )
+    let ws = c .args .wishes .now in (
+      omega arith,
+      first-here (λ k. leb (c .args .levels) (levelOf ws k)) (length ws) (c .loop-k .k) (omega arith) (c .loop-k .inv)
+          (le-leb (c .args .levels) (levelOf ws (c .loop-k .k)) (c .if-wish-levels .taken)),
+    )
 
 pub returns : need.returns
 returns c =

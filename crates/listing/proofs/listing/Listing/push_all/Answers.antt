@@ -17,7 +17,7 @@ returns-in-Break-push-row c =
     let e = c .in-Break-push-row .field-0 .0 in
     handed _ (c .from-residual-in-Break-push-row .result) e (c .from-residual-in-Break-push-row .ensures .1)
     (memory-only l (c .loop-label .label) (string-bytes (c .loop-label .out)) (string-bytes (c .push-row .last .out)) e (c .in-Break-push-row .ensures tt)
-     (row-accepted (l .strip .plan) (meaning (l .strip .ring)) (c .loop-label .label) (c .pre) (omega arith)))
+    (row-accepted (l .strip .plan) (meaning (l .strip .ring)) (c .loop-label .label) (c .pre) (omega arith)))
 
 pub loop-label-again : need.loop-label-again
 loop-label-again c =

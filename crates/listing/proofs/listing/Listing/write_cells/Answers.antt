@@ -22,6 +22,7 @@ returns-in-Break-rows c =
 pub returns : need.returns
 returns c =
     let S = c .args .self .now .strip in
-    let a = c .in-Continue-rows .ensures tt .answer in
-    ( subst (λ n. refusal (rowsRows (S .plan) (meaning (S .ring)) (c .args .label) 1 0 n) ≡ None) (c .pre) (a .0)
-    , cells-taken (c .args .label) (c .args .cells .now) (c .rows .last .table) (a .1) (omega (arith, a .1 .sized, S .plan .named, S .plan .few)) (S .plan .factors) (omega arith) )
+    let a = c .in-Continue-rows .ensures tt .answer in (
+      subst (λ n. refusal (rowsRows (S .plan) (meaning (S .ring)) (c .args .label) 1 0 n) ≡ None) (c .pre) (a .0),
+      cells-taken (c .args .label) (c .args .cells .now) (c .rows .last .table) (a .1) (omega (arith, a .1 .sized, S .plan .named, S .plan .few)) (S .plan .factors) (omega arith),
+    )

@@ -15,7 +15,7 @@ wished-values-requires g c κs =
     let P = c .args .self .now .plan in
     record {
       sized = c .pre .sized;
-      named = λ k h. omega (arith, placed-all (λ w. w .factor < P .factors) (c .args .wishes .now) (c .pre .chosen .factors) k h, P .named, P .few)
+      named = λ k h. omega (arith, placed-all (λ w. w .factor < P .factors) (c .args .wishes .now) (c .pre .chosen .factors) k h, P .named, P .few);
     }
 
 pub number-place-requires : need.number-place-requires
@@ -26,7 +26,7 @@ number-place-requires g c κs =
     let inv = g .R·Dividing .inverse (S .ring) in
     let ws = c .args .wishes .now in
     let place : number (S .plan .levels) (c .interpolate .last .values) ≡ placeFor (S .plan) R inv W ws =
-      ap (number (S .plan .levels)) (c .interpolate .ensures ∙ ap (interp R inv (pointsOf ws)) (c .wished-values .ensures)) in
+    ap (number (S .plan .levels)) (c .interpolate .ensures ∙ ap (interp R inv (pointsOf ws)) (c .wished-values .ensures)) in
     let fits = place-fits (S .plan) (g .R·Ring·met .laws (S .ring)) (g .S·Shuffler·met .shuffles (S .shuffler)) (c .pre .counts) inv (c .gather-inverses .ensures) ws (c .pre .chosen) in
     (omega (arith, S .plan .several), omega (arith, S .plan .short))
 
@@ -38,7 +38,7 @@ returns g c =
     let inv = g .R·Dividing .inverse (S .ring) in
     let ws = c .args .wishes .now in
     let place : c .number-place .result ≡ placeFor (S .plan) R inv W ws =
-      c .number-place .ensures ∙ ap (number (S .plan .levels)) (c .interpolate .ensures ∙ ap (interp R inv (pointsOf ws)) (c .wished-values .ensures)) in
+    c .number-place .ensures ∙ ap (number (S .plan .levels)) (c .interpolate .ensures ∙ ap (interp R inv (pointsOf ws)) (c .wished-values .ensures)) in
     let label : c .back .result ≡ W .back (S .plan .seed) (S .plan .labels) (placeFor (S .plan) R inv W ws) = cc in
     subst (λ i. Named (S .plan) R W ws i) (sym label)
     (named (S .plan) (g .R·Ring·met .laws (S .ring)) (g .S·Shuffler·met .shuffles (S .shuffler)) (c .pre .counts) inv (c .gather-inverses .ensures) ws (c .pre .chosen))

@@ -12,5 +12,5 @@ returns g c =
     record {
       value = value;
       below = subst (λ z. z < S .plan .levels) (sym value)
-        (level-below (S .plan) (g .R·Ring·met .laws (S .ring)) (g .S·Shuffler·met .shuffles (S .shuffler)) (c .pre .counts) (c .args .n) (c .args .factor))
+          (level-below (S .plan) (g .R·Ring·met .laws (S .ring)) (g .S·Shuffler·met .shuffles (S .shuffler)) (c .pre .counts) (c .args .n) (c .args .factor));
     }

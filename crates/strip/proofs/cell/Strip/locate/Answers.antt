@@ -18,7 +18,8 @@ returns g c =
     let S = c .args .self .now in
     let R = g .R·Ring .ring (S .ring) in
     let W = g .S·Shuffler .ways (S .shuffler) in
-    let label : c .back .result ≡ W .back (S .plan .seed) (S .plan .labels) (placeOf (S .plan) R W (c .args .factor) (c .args .fine)) = cc in
-    ( grind (arith, tells)
-    , subst (λ i. Located (S .plan) R W (c .args .factor) (c .args .fine) i) (sym label)
-      (located (S .plan) (g .R·Ring·met .laws (S .ring)) (g .S·Shuffler·met .shuffles (S .shuffler)) (omega arith) (c .args .factor) (c .args .fine) (omega arith)) )
+    let label : c .back .result ≡ W .back (S .plan .seed) (S .plan .labels) (placeOf (S .plan) R W (c .args .factor) (c .args .fine)) = cc in (
+      grind (arith, tells),
+      subst (λ i. Located (S .plan) R W (c .args .factor) (c .args .fine) i) (sym label)
+          (located (S .plan) (g .R·Ring·met .laws (S .ring)) (g .S·Shuffler·met .shuffles (S .shuffler)) (omega arith) (c .args .factor) (c .args .fine) (omega arith)),
+    )

@@ -17,10 +17,11 @@ returns g c =
     let size : start + cells - start ≡ cells = omega arith in
     let W = Written (S .plan) (g .R·Ring .ring (S .ring)) (g .S·Shuffler .ways (S .shuffler)) in
     record {
-      answer =
-        ( grind (arith, tells)
-        , subst (λ z. W (c .args .first) (c .args .count) start xs (putMid start z xs (c .write-rows .last .part))) (sym size)
-          (part-written (c .args .first) (c .args .count) start xs (c .write-rows .last .part) (omega arith)
-           (subst (λ z. W (c .args .first) (c .args .count) 0 (take z (drop start xs)) (c .write-rows .last .part)) size (c .write-rows .ensures))) );
-      same = tt
+      answer = (
+        grind (arith, tells),
+        subst (λ z. W (c .args .first) (c .args .count) start xs (putMid start z xs (c .write-rows .last .part))) (sym size)
+            (part-written (c .args .first) (c .args .count) start xs (c .write-rows .last .part) (omega arith)
+            (subst (λ z. W (c .args .first) (c .args .count) 0 (take z (drop start xs)) (c .write-rows .last .part)) size (c .write-rows .ensures))),
+      );
+      same = tt;
     }

@@ -12,5 +12,5 @@ returns g c =
     record {
       value = value;
       below = subst (λ z. z < S .plan .labels / S .plan .levels) (sym value)
-        (sublevel-below (S .plan) (g .S·Shuffler·met .shuffles (S .shuffler)) (c .args .n) (c .args .factor) (c .pre .placed))
+          (sublevel-below (S .plan) (g .S·Shuffler·met .shuffles (S .shuffler)) (c .args .n) (c .args .factor) (c .pre .placed));
     }

@@ -13,8 +13,8 @@ cell-at-requires g c κs =
     record {
       counts = c .pre .counts;
       placed = subst (λ z. z < S .plan .labels) (sym (c .out-n .ensures))
-        (g .S·Shuffler·met .shuffles (S .shuffler) .out-below (S .plan .seed) (S .plan .labels) (c .args .label) (omega arith) (c .pre .placed));
-      named = omega arith
+          (g .S·Shuffler·met .shuffles (S .shuffler) .out-below (S .plan .seed) (S .plan .labels) (c .args .label) (omega arith) (c .pre .placed));
+      named = omega arith;
     }
 
 pub returns : need.returns

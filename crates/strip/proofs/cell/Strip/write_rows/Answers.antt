@@ -20,7 +20,8 @@ pub loop-k-again : need.loop-k-again
 loop-k-again g c =
     let S = c .args .self .now in
     let k : ℕ = c .loop-k .k in
-    let at : c .loop-k .at ≡ 0 + k * S .plan .factors = c .loop-k .inv .0 ∙ sym (zero-add (k * S .plan .factors)) in
-    ( ap (λ z. z + S .plan .factors) (c .loop-k .inv .0) ∙ row-more k (S .plan .factors)
-    , rows-more (c .args .first) k 0 (c .args .part .now) (c .loop-k .part) (c .write-row .last .part) (c .loop-k .inv .1)
-      (subst (λ z. Written (S .plan) (g .R·Ring .ring (S .ring)) (g .S·Shuffler .ways (S .shuffler)) (c .args .first + k) 1 z (c .loop-k .part) (c .write-row .last .part)) at (c .write-row .ensures)) )
+    let at : c .loop-k .at ≡ 0 + k * S .plan .factors = c .loop-k .inv .0 ∙ sym (zero-add (k * S .plan .factors)) in (
+      ap (λ z. z + S .plan .factors) (c .loop-k .inv .0) ∙ row-more k (S .plan .factors),
+      rows-more (c .args .first) k 0 (c .args .part .now) (c .loop-k .part) (c .write-row .last .part) (c .loop-k .inv .1)
+          (subst (λ z. Written (S .plan) (g .R·Ring .ring (S .ring)) (g .S·Shuffler .ways (S .shuffler)) (c .args .first + k) 1 z (c .loop-k .part) (c .write-row .last .part)) at (c .write-row .ensures)),
+    )
