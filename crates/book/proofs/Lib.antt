@@ -1,0 +1,9 @@
+pub mod Upward
+pub mod Lines
+pub mod Steps
+pub mod Simulation
+pub mod Acting
+pub mod Handing
+pub mod Chains
+pub mod Playing
+pub mod Grades

@@ -1,0 +1,13 @@
+pub mod Standings
+pub mod Faults
+pub mod Calls
+pub mod Search
+pub mod Sought
+pub mod Deeds
+pub mod Conditions
+pub mod Books
+pub mod Plain
+pub mod Rows
+pub mod Laws
+pub mod Shown
+pub mod Turns
