@@ -6,6 +6,10 @@ use Prim.Native.Nat.{ℕ, zero, suc, _<_, _≤_}
 use native.Mathlib.Omega.{arith}
 use lib.ListN.{length, length-map}
 use Rattle.std.specs.shelf.Lists.{All}
+use Rattle.std.specs.declared.option.Option.the-variants.{None}
+use Rattle.std.proofs.shelf.Ways.{tells}
+use Rattle.refusal.specs.Table.{refusal}
+use Rattle.strip.specs.Rows.{countRow}
 use Rattle.levels.specs.Rings.{Arithmetic, RingLaws}
 use Rattle.shuffle.specs.Ways.{Ways, ShuffleLaws}
 use Rattle.plan.specs.declared.shape.Plan.{Plan}
@@ -15,6 +19,10 @@ use Rattle.strip.specs.Names.{Apart, Chosen, Meets as HasAll, Named, Exact}
 use Rattle.strip.proofs.Bounds.{level-below}
 use Rattle.design.specs.Designs.{In, Distinct, Factors, Meets, Design}
 use Rattle.strip_design.specs.Strips.{StripDesign}
+
+-- a strip that is not refused has an arithmetic of the plan's count
+pub count-same : (P : Plan) (R : Arithmetic) → refusal (countRow P R ∷ []) ≡ None → R .count ≡ P .levels
+count-same P R e = grind (arith, tells)
 
 -- the wishes for level w j at each factor j of F
 abbrev pub wishesFor : (ℕ → ℕ) → List ℕ → List Wish

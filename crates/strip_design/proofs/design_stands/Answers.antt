@@ -1,11 +1,8 @@
 use mathlib.Core.Path.{_≡_}
 use mathlib.Core.List.{List, [], _∷_}
-use native.Mathlib.Omega.{arith}
-use Rattle.std.specs.declared.option.Option.the-variants.{None}
 use Rattle.std.specs.declared.result.Result.{Result}
 use Rattle.std.specs.declared.result.Result.the-variants.{Ok, Err}
-use Rattle.std.proofs.shelf.Ways.{tells}
-use Rattle.refusal.specs.Table.{refusal, Answers}
+use Rattle.refusal.specs.Table.{Answers}
 use Rattle.levels.specs.Rings.{Arithmetic, RingLaws}
 use Rattle.shuffle.specs.Ways.{Ways, ShuffleLaws}
 use Rattle.plan.specs.declared.shape.Plan.{Plan}
@@ -14,11 +11,8 @@ use Rattle.strip.specs.Faults.{stripSlip}
 use Rattle.strip.specs.Rows.{countRow}
 use Rattle.strip.specs.Names.{Exact}
 use Rattle.strip_design.specs.Strips.{StripDesign}
-use Rattle.strip_design.proofs.Runs.{strip-design}
+use Rattle.strip_design.proofs.Runs.{count-same, strip-design}
 use Rattle.strip_design.proofs.design_stands.Needs as need
-
-count-same : (P : Plan) (R : Arithmetic) → refusal (countRow P R ∷ []) ≡ None → R .count ≡ P .levels
-count-same P R e = grind (arith, tells)
 
 told : (P : Plan) (R : Arithmetic) (W : Ways) → RingLaws R → ShuffleLaws W → (r : Result (Unit {0}) StripFault)
     → Answers stripSlip (countRow P R ∷ []) (λ _. Exact P R W) r → Answers stripSlip (countRow P R ∷ []) (λ _. StripDesign P R W) r

@@ -1,0 +1,5 @@
+pub mod Arrays
+pub mod Verdicts
+pub mod Faults
+pub mod Refusals
+pub mod Steps
