@@ -29,12 +29,12 @@ module _ (s : ℕ) (h : listedServes s ≡ true) where
   below a = mod-lt a (omega (arith, listed-laws s h .low))
 
   -- what is read of such a table for two numbers
-  pub cell-right : (f : ℕ → ℕ → ℕ → ℕ) (rows : List (List ℕ)) (r k a b : ℕ) → r ≡ cell rows k (b % s) → k ≡ rowOf s a → T (cells-right f rows) → r ≡ f s (a % s) (b % s)
+  pub cell-right : (f : ℕ → ℕ → ℕ → ℕ) (rows : List (List ℕ)) (r k m a b : ℕ) → r ≡ cell rows k m → k ≡ rowOf s a → m ≡ b % s → T (cells-right f rows) → r ≡ f s (a % s) (b % s)
   unfolding cell
-  cell-right f rows r k a b er ek t =
+  cell-right f rows r k m a b er ek em t =
       let square = at-of listedCounts (λ s. all-below s (λ a. all-below s (λ b. eqb (getD (getD rows (before listedCounts s + a) []) b 0) (f s a b)))) t s h in
       let line = at s (λ a. all-below s (λ b. eqb (getD (getD rows (before listedCounts s + a) []) b 0) (f s a b))) square (a % s) (below a) in
-      er ∙ ap (λ i. getD (getD rows i []) (b % s) 0) ek
+      er ∙ ap (λ i. getD (getD rows i []) m 0) ek ∙ ap (λ i. getD (getD rows (rowOf s a) []) i 0) em
       ∙ eqb→eq (getD (getD rows (rowOf s a) []) (b % s) 0) (f s (a % s) (b % s)) (at s (λ b. eqb (getD (getD rows (rowOf s a) []) b 0) (f s (a % s) b)) line (b % s) (below b))
 
   -- what is read of such a table for a number

@@ -13,6 +13,7 @@ use crate::arithmetic::ONE;
 use crate::arithmetic::Ring;
 use crate::fault::ArithmeticFault;
 use crate::table::cell;
+use crate::table::code;
 use crate::table::entry;
 
 // Each table has a row for each code of each count, 2, 3, 5, 7, 11 and 13. Rows shorter than 13 end in zeros.
@@ -223,7 +224,7 @@ impl Listed {
             11 => 17,
             _ => 28,
         };
-        start + a % s
+        start + code(s, a)
     }
 }
 
@@ -239,15 +240,15 @@ pub impl Ring for Listed as ListedRing {
     }
 
     fn sum(&self, a: u32, b: u32) -> u32 {
-        cell(&SUMS, self.row(a), b % self.count)
+        cell(&SUMS, self.row(a), code(self.count, b))
     }
 
     fn difference(&self, a: u32, b: u32) -> u32 {
-        cell(&DIFFERENCES, self.row(a), b % self.count)
+        cell(&DIFFERENCES, self.row(a), code(self.count, b))
     }
 
     fn product(&self, a: u32, b: u32) -> u32 {
-        cell(&PRODUCTS, self.row(a), b % self.count)
+        cell(&PRODUCTS, self.row(a), code(self.count, b))
     }
 }
 

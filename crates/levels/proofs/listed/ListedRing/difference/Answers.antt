@@ -8,5 +8,5 @@ pub returns : need.returns
 returns c =
     let s = c .args .self .now .count in
     let h = c .args .self .now .served in
-    let read = cell-right s h (λ s. residues s .difference) _ _ _ (c .args .a) (c .args .b) (c .cell .ensures .value) (c .row .ensures .value) tt in
+    let read = cell-right s h (λ s. residues s .difference) _ _ _ _ (c .args .a) (c .args .b) (c .cell .ensures .value) (c .row .ensures .value) (c .code .ensures .value) tt in
     record { value = read ∙ sym (listed-laws s h .sub-mod (c .args .a) (c .args .b)) }
