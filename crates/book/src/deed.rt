@@ -17,7 +17,7 @@ pub enum Deed {
 
 impl Deed {
     // Whether it gives a grade above 1000.
-    pub fn is_high(self) -> bool
+    pub(crate) fn is_high(self) -> bool
         ensures { λ r. ⌜ r ≡ isHigh self ⌝ }
     {
         match self {
@@ -27,7 +27,7 @@ impl Deed {
     }
 
     // The word that a label of this standing gets.
-    pub fn turns(self, standing: Standing, label: u32) -> Result<u16, BookFault>
+    pub(crate) fn turns(self, standing: Standing, label: u32) -> Result<u16, BookFault>
         requires { ⌜ isHigh self ≡ false ⌝ }
         ensures { λ r. ⌜ Answers bookSlip (against self standing label) (λ word. word ≡ code (made self)) r ⌝ }
     {

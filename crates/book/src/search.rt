@@ -33,7 +33,7 @@ impl Sought {
     }
 
     // The first label from `from` on and below `to` whose word is sought.
-    pub fn first(self, words: &[u16], from: usize, to: usize) -> Option<usize>
+    pub(crate) fn first(self, words: &[u16], from: usize, to: usize) -> Option<usize>
         requires { ⌜ to ≤ length (now words) ⌝ }
         ensures answer { λ r. ⌜ r ≡ first (among self) (standings (now (words .entry))) from (to - from) ⌝ }
         ensures within { λ r. ⌜ Cases r (Unit {0}) (λ k. k < to) ⌝ }
@@ -48,7 +48,7 @@ impl Sought {
 }
 
 // Where a take stops that starts at the cursor.
-pub fn seek(words: &[u16], cursor: usize) -> Option<usize>
+pub(crate) fn seek(words: &[u16], cursor: usize) -> Option<usize>
     requires { ⌜ cursor ≤ length (now words) ⌝ }
     ensures answer { λ r. ⌜ r ≡ stop cursor (standings (now (words .entry))) ⌝ }
     ensures within { λ r. ⌜ Cases r (Unit {0}) (λ k. k < length (now (words .entry))) ⌝ }

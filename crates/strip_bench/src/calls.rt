@@ -133,7 +133,7 @@ fn time_scans(rt: &LibcRuntime, table: &[Cell]) -> Result<(), AnyError> {
 }
 
 // Many calls; and few, whose sums have to be those of the scans.
-pub fn print_calls(rt: &LibcRuntime, strip: &Large, table: &[Cell]) -> Result<(), AnyError> {
+pub(crate) fn print_calls(rt: &LibcRuntime, strip: &Large, table: &[Cell]) -> Result<(), AnyError> {
     time_calls(rt, strip, CALLS)?;
     time_calls(rt, strip, SCANS)?;
     time_scans(rt, table)

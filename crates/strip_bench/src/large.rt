@@ -12,7 +12,7 @@ use strip::cell::Strip;
 
 pub type Large = Strip<Listed, Hash>;
 
-pub fn plan_large() -> Result<Large, AnyError> {
+pub(crate) fn plan_large() -> Result<Large, AnyError> {
     let Ok(ring) = Listed::new(13) else {
         return Err("the count is refused".into());
     };
@@ -27,13 +27,13 @@ pub fn plan_large() -> Result<Large, AnyError> {
 }
 
 // A table with room for all rows.
-pub fn unwritten(heap: Global, strip: &Large) -> Result<Vec<Cell>, AllocError> {
+pub(crate) fn unwritten(heap: Global, strip: &Large) -> Result<Vec<Cell>, AllocError> {
     let cells = (strip.plan.labels as usize).wrapping_mul(strip.plan.factors as usize);
     vec![in heap; Cell { level: 0, fine: 0 }; cells]
 }
 
 // Writes all rows.
-pub fn fill(strip: &Large, table: &mut [Cell]) -> Result<(), AnyError> {
+pub(crate) fn fill(strip: &Large, table: &mut [Cell]) -> Result<(), AnyError> {
     match strip.rows(0, strip.plan.labels, table, 0) {
         Ok(()) => Ok(()),
         Err(_) => Err("the rows are refused".into()),
@@ -41,7 +41,7 @@ pub fn fill(strip: &Large, table: &mut [Cell]) -> Result<(), AnyError> {
 }
 
 // The sum over all cells of the index plus 1 times the level followed by the fine setting, modulo 2^32.
-pub fn checksum(table: &[Cell]) -> u32 {
+pub(crate) fn checksum(table: &[Cell]) -> u32 {
     let mut sum = 0u32;
     let mut place = 0u32;
     for cell in table.iter() {

@@ -9,7 +9,7 @@ use strip::cell::Cell;
 const RUNS: usize = 21;
 
 // Nanoseconds since the start.
-pub fn since(rt: &LibcRuntime, start: Instant) -> Result<u128, AnyError> {
+pub(crate) fn since(rt: &LibcRuntime, start: Instant) -> Result<u128, AnyError> {
     Ok(start.elapsed(rt)?.as_nanos())
 }
 
@@ -24,7 +24,11 @@ fn print_time(rt: &LibcRuntime, what: &str, nanos: u128) -> Result<(), AnyError>
 }
 
 // The rows of the whole strip, written into the same table again and again.
-pub fn print_rows(rt: &LibcRuntime, strip: &Large, table: &mut [Cell]) -> Result<(), AnyError> {
+pub(crate) fn print_rows(
+    rt: &LibcRuntime,
+    strip: &Large,
+    table: &mut [Cell],
+) -> Result<(), AnyError> {
     let mut times = [0u128; RUNS];
     let mut sum = 0u32;
     for time in times.iter_mut() {

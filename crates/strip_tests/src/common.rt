@@ -12,7 +12,7 @@ use strip::cell::Strip;
 use strip::fault::StripFaultFault;
 
 // What an accepted call answers.
-pub fn accepted<T: Drop, E: Fault + Drop>(result: Result<T, E>) -> Result<T, Fail> {
+pub(crate) fn accepted<T: Drop, E: Fault + Drop>(result: Result<T, E>) -> Result<T, Fail> {
     match result {
         Ok(value) => Ok(value),
         Err(fault) => Err(Fail::new(format_args!("refused by {}", fault.slip().number))),
@@ -20,7 +20,7 @@ pub fn accepted<T: Drop, E: Fault + Drop>(result: Result<T, E>) -> Result<T, Fai
 }
 
 // That a call is refused by this slip.
-pub fn refused<T: Drop, E: Fault + Drop>(
+pub(crate) fn refused<T: Drop, E: Fault + Drop>(
     result: Result<T, E>,
     number: u8,
     layer: Layer,
@@ -40,7 +40,7 @@ pub fn refused<T: Drop, E: Fault + Drop>(
 }
 
 // A label's cell for a factor, read from its row.
-pub fn cell<R: Ring, S: Shuffler>(
+pub(crate) fn cell<R: Ring, S: Shuffler>(
     strip: &Strip<R, S>,
     label: u32,
     factor: u32,
