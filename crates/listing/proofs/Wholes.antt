@@ -67,12 +67,13 @@ opened-count q l o = ap (λ (R : Arithmetic). R .count) (o .ring) ∙ count-for 
 pub from-empty : (out empty text : List ℕ) → empty ≡ [] → out ≡ empty ++ text → out ≡ text
 from-empty out empty text e a = a ∙ ap (λ xs. xs ++ text) e
 
-pub accepted : (input text : List ℕ) (q : Option Request) (l : Listing) → Parsed input q → Listed q l → text ≡ wholeOf l (l .strip .plan .labels) → Prints input text
-accepted input text q l p o e =
+pub accepted : (input text : List ℕ) (q : Option Request) (l : Listing) → Parsed input q → refusal (listingRows q) ≡ None → Listed q l → text ≡ wholeOf l (l .strip .plan .labels) → Prints input text
+accepted input text q l p n o e =
     inr
     (record {
       request = l .request;
       reads = subst (Parsed input) (o .request) p;
+      clear = subst (λ r. refusal (listingRows r) ≡ None) (o .request) n;
       plan = l .strip .plan;
       planned = o .planned;
       lines = e ∙ ap₂ (λ R W. headerText (l .request) ++ rowsText (l .strip .plan) R W (l .strip .plan .labels)) (o .ring) (o .ways);

@@ -82,6 +82,7 @@ pub record Turned (input text : List ℕ) : Type 0 where
 pub record Accepted (input text : List ℕ) : Type 0 where
   pub request : Request
   pub reads : Reads input request
+  pub clear : refusal (listingRows (Some request)) ≡ None
   pub plan : Plan
   pub planned : Planned (request .levels) (request .strength) (request .factors) (request .seed) plan
   pub lines : text ≡ headerText request ++ rowsText plan (arithmeticFor (request .levels)) (waysFor (request .shuffler)) (plan .labels)

@@ -3,12 +3,14 @@ ghost use mathlib.Core.Path.{_≡_};
 ghost use mathlib.Core.List.{_++_};
 ghost use Rattle.std.specs.declared.option.Option.{Option};
 ghost use Rattle.std.specs.Results.{Cases};
-ghost use Rattle.std.specs.Of.String.{string-bytes};
+ghost use Prim.Native.Nat.{_+_, _≤_};
+ghost use Rattle.std.specs.declared.result.Result.the-variants.{Err};
+ghost use Rattle.std.specs.Of.String.{string-bytes, string-len, string-cap};
 ghost use Rattle.refusal.specs.Table.{Answers};
 ghost use Rattle.listing_text.specs.declared.request.Request.{Request};
 ghost use Rattle.listing.specs.declared.fault.LineFault.the-variants.{Memory};
 ghost use Rattle.listing.specs.Faults.{listingSlip};
-ghost use Rattle.listing.specs.Listings.{Parsed, listingRows, waysFor, wholeOf, Listed, RowPushed, Prints};
+ghost use Rattle.listing.specs.Listings.{Parsed, listingRows, waysFor, lineOf, wholeOf, Listed, RowPushed, Prints};
 ghost use Rattle.shuffle.specs.Choice.{waysOf};
 ghost use Rattle.levels.specs.Choice.{meaning};
 ghost use Rattle.strip.specs.Rows.{rowsRows};
@@ -72,7 +74,8 @@ impl Listing {
 
     // Appends the line of a label.
     pub fn push_row(&self, out: &mut String, label: u32) -> Result<(), LineFault>
-        ensures { λ r. ⌜ RowPushed (now (self .entry)) label (string-bytes (now (out .entry))) (string-bytes (now (out .exit))) r ⌝ }
+        ensures text { λ r. ⌜ RowPushed (now (self .entry)) label (string-bytes (now (out .entry))) (string-bytes (now (out .exit))) r ⌝ }
+        ensures room { λ r. ⌜ (string-len (now (out .entry)) + length (lineOf (now (self .entry)) label) ≤ string-cap (now (out .entry)) → r ≡ Err Memory → ⊥) ⌝ }
     {
         let mut cells = [Cell { level: 0, fine: 0 }; 16];
         self.write_cells(label, &mut cells)?;

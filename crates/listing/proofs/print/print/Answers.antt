@@ -17,7 +17,7 @@ returns c =
       | in-Ok·in-Continue-push-all w ↦
           let o = w .in-Ok .ensures tt in
           let l = w .in-Ok .listing in
-          accepted (c .args .input .now) (string-bytes (c .match-open .out)) (o .0) l (o .1) (o .2 .1)
+          accepted (c .args .input .now) (string-bytes (c .match-open .out)) (o .0) l (o .1) (o .2 .0) (o .2 .1)
           (ap string-bytes (w .out-is)
           ∙ from-empty (string-bytes (w .push-all .last .out)) (string-bytes (c .new-out .result)) (wholeOf l (l .strip .plan .labels)) (c .new-out .ensures .bytes) (w .in-Continue-push-all .ensures tt))
       | in-Err·in-Continue-push-refused w ↦

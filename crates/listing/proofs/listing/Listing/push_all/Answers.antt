@@ -16,7 +16,7 @@ returns-in-Break-push-row c =
     let l = c .args .self .now in
     let e = c .in-Break-push-row .field-0 .0 in
     handed _ (c .from-residual-in-Break-push-row .result) e (c .from-residual-in-Break-push-row .ensures .1)
-    (memory-only l (c .loop-label .label) (string-bytes (c .loop-label .out)) (string-bytes (c .push-row .last .out)) e (c .in-Break-push-row .ensures tt)
+    (memory-only l (c .loop-label .label) (string-bytes (c .loop-label .out)) (string-bytes (c .push-row .last .out)) e (c .in-Break-push-row .ensures tt .text)
     (row-accepted (l .strip .plan) (meaning (l .strip .ring)) (c .loop-label .label) (c .pre) (omega arith)))
 
 pub loop-label-again : need.loop-label-again
@@ -24,7 +24,7 @@ loop-label-again c =
     let l = c .args .self .now in
     lines-more (l .strip .plan) (meaning (l .strip .ring)) (waysOf (l .strip .shuffler)) (c .loop-label .label)
     (string-bytes (c .push-header .last .out)) (string-bytes (c .loop-label .out)) (string-bytes (c .push-row .last .out)) (lineOf l (c .loop-label .label))
-    (c .loop-label .inv) (c .in-Continue-push-row .ensures tt .1) refl
+    (c .loop-label .inv) (c .in-Continue-push-row .ensures tt .text .1) refl
 
 pub returns : need.returns
 returns c =
