@@ -1,12 +1,11 @@
 // How a plan is made from any four numbers, or refused.
 ghost use mathlib.Core.Path.{_≡_};
-ghost use Prim.Native.Nat.{_^_, _<_, _≤_};
-ghost use Rattle.std.specs.Options.{Cases};
 ghost use Rattle.refusal.specs.Table.{Answers};
 ghost use Rattle.plan.specs.Faults.{planSlip};
 ghost use Rattle.plan.specs.Plans.{undivided, planRows, Planned};
 use crate::fault::PlanFault;
 use crate::shape::Plan;
+use numbers::power;
 
 impl Plan {
     pub fn new(levels: u32, strength: u32, factors: u32, seed: u32) -> Result<Plan, PlanFault>
@@ -42,19 +41,4 @@ fn is_undivided(levels: u32) -> bool
     ensures { λ r. ⌜ r ≡ undivided levels ⌝ }
 {
     matches!(levels, 6 | 9 | 10 | 12 | 14 | 15)
-}
-
-// base^exponent, or nothing where that is above 65,536.
-fn power(base: u32, exponent: u32) -> Option<u32>
-    requires { ⌜ 1 ≤ base ⌝ ∗ ⌜ base ≤ 16 ⌝ }
-    ensures { λ r. ⌜ Cases r (65536 < base ^ exponent) (λ n. (n ≡ base ^ exponent) × (n ≤ 65536)) ⌝ }
-{
-    let mut n = 1;
-    for _k in 0..exponent {
-        n *= base;
-        if n > 65536 {
-            return None;
-        }
-    }
-    Some(n)
 }

@@ -1,31 +1,16 @@
 // Which tables are not checked.
 ghost use mathlib.Core.Path.{_≡_};
 ghost use mathlib.Core.List.{map};
-ghost use Prim.Native.Nat.{_^_, _<_, _≤_};
+ghost use Prim.Native.Nat.{_^_};
 ghost use lib.Dec.{leb};
 ghost use lib.ListN.{length, getD};
-ghost use Rattle.std.specs.Options.{Cases};
 ghost use Rattle.refusal.specs.Table.{Answers, Sought};
 ghost use Rattle.strength.specs.Faults.{checkerSlip};
 ghost use Rattle.strength.specs.Refusals.{checkRows, Accepted};
 use crate::cell::Levelled;
 use crate::claim::Claim;
 use crate::fault::CheckerFault;
-
-// base^exponent, or nothing where that is above 65,536.
-fn power(base: u32, exponent: u32) -> Option<u32>
-    requires { ⌜ 1 ≤ base ⌝ ∗ ⌜ base ≤ 16 ⌝ }
-    ensures { λ r. ⌜ Cases r (65536 < base ^ exponent) (λ n. (n ≡ base ^ exponent) × (n ≤ 65536)) ⌝ }
-{
-    let mut n = 1;
-    for _k in 0..exponent {
-        n *= base;
-        if n > 65536 {
-            return None;
-        }
-    }
-    Some(n)
-}
+use numbers::power;
 
 // The first cell that has no level of the array.
 fn unknown_level<C: Levelled>(table: &[C], levels: u32) -> Option<usize>
