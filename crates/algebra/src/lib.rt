@@ -1,4 +1,6 @@
 // Theorems on polynomials over a ring of codes: each function's contract is one. Rests on the ring laws alone.
+#![tactic(auto)]
+
 ghost use Rattle.algebra.specs.Theorems.{Interpolates, Counts};
 
 // Through points whose differences have inverses goes exactly one polynomial of as many coefficients.

@@ -1,4 +1,6 @@
 // The theorems of orthogonal arrays, each asked for by a contract.
+#![tactic(auto)]
+
 ghost use Rattle.design.specs.Claims.{Sum-laws, Exchange, Fibre, Effect, Coverage};
 ghost use Rattle.design.specs.Models.{Designs-exist};
 

@@ -1,4 +1,6 @@
 // Level arithmetic: rings on the codes 0 to s − 1, made of residues or of polynomials. Rests on the refusal table.
+#![tactic(auto)]
+
 pub mod arithmetic;
 pub mod binary;
 pub mod choice;

@@ -1,3 +1,5 @@
 // The words of a line, and the numbers that they write. Rests on the listing's text for what a numeral is.
+#![tactic(auto)]
+
 pub mod number;
 pub mod words;

@@ -1,4 +1,6 @@
 // The text of a strip listing: its request line is read from bytes, and its printed lines are appended to a string.
+#![tactic(auto)]
+
 mod cursor;
 pub mod lines;
 pub mod request;

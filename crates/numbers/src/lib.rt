@@ -1,4 +1,6 @@
 // Powers up to the largest number of labels. Rests on nothing.
+#![tactic(auto)]
+
 ghost use Rattle.std.specs.Prelude.{◌≡◌, ◌^◌, ◌<◌, ◌≤◌, MatchOption};
 
 // base^exponent, or nothing where that is above 65,536.

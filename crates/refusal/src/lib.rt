@@ -1,4 +1,6 @@
 // What every refusal tells: its number, the layer that found the fault, and a place. Rests on nothing.
+#![tactic(auto)]
+
 ghost use Rattle.std.specs.Prelude.{◌≡◌};
 ghost use Rattle.refusal.specs.declared.Slip.{Slip};
 ghost use Rattle.refusal.specs.Laws.{FirstRow, NoRow};

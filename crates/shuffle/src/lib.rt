@@ -1,4 +1,6 @@
 // Shufflers: keyed permutations of the numbers below a size, each with its way back.
+#![tactic(auto)]
+
 ghost use Rattle.std.specs.Prelude.{◌≡◌};
 ghost use Rattle.shuffle.specs.Ways.{Ways, ShuffleLaws};
 

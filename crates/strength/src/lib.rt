@@ -1,5 +1,7 @@
 // The strength checker: whether a table is an orthogonal array, and where it first fails if it is not.
 // Rests on what every refusal tells.
+#![tactic(auto)]
+
 pub mod cell;
 pub mod checking;
 pub mod claim;

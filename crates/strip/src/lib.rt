@@ -1,4 +1,6 @@
 // The labels of a strip: rows of cells for any ring and any shuffler.
+#![tactic(auto)]
+
 pub mod array;
 pub mod cell;
 pub mod fault;

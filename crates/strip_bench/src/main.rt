@@ -1,4 +1,6 @@
 // Prints the checksum of a large strip's rows and, given the argument `time`, how long rows, find, locate and a check take.
+#![tactic(auto)]
+
 mod calls;
 mod checks;
 mod hashed;

@@ -1,4 +1,6 @@
 // The labels of a strip are a design, so that what holds of every design holds of every strip.
+#![tactic(auto)]
+
 ghost use Rattle.std.specs.Prelude.{[], ◌∷◌};
 ghost use Rattle.refusal.specs.Table.{Answers};
 ghost use Rattle.strip.specs.Faults.{strip_slip};

@@ -1,4 +1,6 @@
 // Prints the strip listing that the first line of standard input asks for. It only reads and prints.
+#![tactic(auto)]
+
 ghost use Rattle.std.specs.Prelude.{◌≤◌, length, IfOk};
 
 use anyhow::anyhow;

@@ -1,4 +1,6 @@
 // Tests from outside: rows, find and locate over several arithmetics and both shufflers, every refusal, effects and whole trials.
+#![tactic(auto)]
+
 #[cfg(test)]
 mod answers;
 #[cfg(test)]

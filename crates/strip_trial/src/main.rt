@@ -1,5 +1,7 @@
 // Holds the trial that a script on standard input asks for, and prints what happened. It only reads and prints:
 // the first line is the listing's, and the trial is the library's.
+#![tactic(auto)]
+
 mod closing;
 mod command;
 mod report;

@@ -1,5 +1,7 @@
 // Prints whether the table of levels on standard input is an orthogonal array. It only reads and prints: the verdict is the
 // checker's.
+#![tactic(auto)]
+
 mod answer;
 mod reading;
 mod table;

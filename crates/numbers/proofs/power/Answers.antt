@@ -16,9 +16,9 @@ loop-k-init c = (sym (pow-zero c.args.base), omega arith)
 pub returns-then-n-gt65536 : goal.returns-then-n-gt65536
 returns-then-n-gt65536 c =
     let b : ℕ = c.args.base in
-    let k : ℕ = c.loop-k.-k in
+    let k : ℕ = c.loop-k._k in
     let pow : c.loop-k.n * b ≡ b ^ (k + 1) = next b c.loop-k.n k c.loop-k.invariant.0 in
     lt_of_lt_of_le (subst (λ z. 65536 < z) pow (omega arith)) (pow-le-pow_right (positive c.loop-k.n b (omega arith)) (omega arith))
 
 pub loop-k-preserved : goal.loop-k-preserved
-loop-k-preserved c = (next c.args.base c.loop-k.n c.loop-k.-k c.loop-k.invariant.0, omega arith)
+loop-k-preserved c = (next c.args.base c.loop-k.n c.loop-k._k c.loop-k.invariant.0, omega arith)

@@ -2,4 +2,4 @@ use Rattle.std.proofs.Common.{◌≡◌, ◌^◌, ◌≤◌}
 use Rattle.numbers.proofs.power.Given as goal
 
 abbrev pub invariant-loop-k : goal.invariant-loop-k
-invariant-loop-k l = (l.n ≡ l.base ^ l.-k) × (l.n ≤ 65536)
+invariant-loop-k l = (l.n ≡ l.base ^ l._k) × (l.n ≤ 65536)

@@ -19,7 +19,7 @@ loop-k-preserved c =
         | then-b-k-eq1 w ↦ let added = partial_add m c.args.a c.args.b k w.if-b-k-eq1.true in cc
         | else-b-k-eq1 w ↦ let skipped = partial_skip m c.args.a c.args.b k w.if-b-k-eq1.false in cc
       ],
-      c.times-z-term.ensures.below,
+      c.times_z-term.ensures.below,
     )
 
 pub returns : goal.returns

@@ -3,8 +3,8 @@ use Rattle.levels.specs.Polynomials.{degree, remainder}
 use Rattle.levels.specs.PolynomialsLemmas.{small, z_below, shift_remainder, remainder_below}
 use Rattle.levels.proofs.binary.times_z.Goals as goal
 
-pub overflow-mul-twice : goal.overflow-mul-twice
-overflow-mul-twice c = let k : c.args.a < 16 = small c.args.modulus c.requires.low c.requires.high c.args.a c.requires.first in search rules
+pub overflow_mul-twice : goal.overflow_mul-twice
+overflow_mul-twice c = let k : c.args.a < 16 = small c.args.modulus c.requires.low c.requires.high c.args.a c.requires.first in search rules
 
 pub returns : goal.returns
 returns c =

@@ -1,13 +1,13 @@
 use Rattle.listing_text.proofs.Chains.{along, stops}
 use Rattle.listing_text.proofs.lines.push_refused.Goals as goal
 
-pub returns-in-err-push-text : goal.returns-in-err-push-text
-returns-in-err-push-text c = record { text = stops _ c.from-residual.result c.from-residual.ensures.0 c.in-err-push-text.ensures.text }
+pub returns-in_err-push_text : goal.returns-in_err-push_text
+returns-in_err-push_text c = record { text = stops _ c.from_residual.result c.from_residual.ensures.0 c.in_err-push_text.ensures.text }
 
-pub returns-in-err-push-spaced : goal.returns-in-err-push-spaced
-returns-in-err-push-spaced c =
-    record { text = along c.in-ok-push-text.ensures.text (stops _ c.from-residual-in-err-push-spaced.result c.from-residual-in-err-push-spaced.ensures.0 c.in-err-push-spaced.ensures.text) }
+pub returns-in_err-push_spaced : goal.returns-in_err-push_spaced
+returns-in_err-push_spaced c =
+    record { text = along c.in_ok-push_text.ensures.text (stops _ c.from_residual-in_err-push_spaced.result c.from_residual-in_err-push_spaced.ensures.0 c.in_err-push_spaced.ensures.text) }
 
 pub returns : goal.returns
 returns c =
-    record { text = along c.in-ok-push-text.ensures.text (along c.in-ok-push-spaced.ensures.text c.push-end.ensures.text) }
+    record { text = along c.in_ok-push_text.ensures.text (along c.in_ok-push_spaced.ensures.text c.push_end.ensures.text) }

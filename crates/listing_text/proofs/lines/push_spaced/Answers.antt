@@ -1,8 +1,8 @@
 use Rattle.listing_text.proofs.Chains.{along, stops}
 use Rattle.listing_text.proofs.lines.push_spaced.Goals as goal
 
-pub returns-in-err-push-text : goal.returns-in-err-push-text
-returns-in-err-push-text c = record { text = stops _ c.from-residual.result c.from-residual.ensures.0 c.in-err-push-text.ensures.text }
+pub returns-in_err-push_text : goal.returns-in_err-push_text
+returns-in_err-push_text c = record { text = stops _ c.from_residual.result c.from_residual.ensures.0 c.in_err-push_text.ensures.text }
 
 pub returns : goal.returns
-returns c = record { text = along c.in-ok-push-text.ensures.text c.push-number.ensures.text }
+returns c = record { text = along c.in_ok-push_text.ensures.text c.push_number.ensures.text }

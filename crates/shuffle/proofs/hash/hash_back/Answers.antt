@@ -14,7 +14,7 @@ unround-x-requires c =
     let o = ones key n (omega arith) (omega arith) (omega arith) in
     let lt : unturn key n c.args.i < n = (turn_perm key n).g_lt c.args.i (omega arith) in
     let fits : n ≤ mask n + 1 = covers key n (omega arith) (omega arith) (omega arith) in
-    let t : c.rotate-back.result ≡ unturn key n c.args.i = c.rotate-back.ensures ∙ unturn_is key n c.args.i (omega arith) in
+    let t : c.rotate_back.result ≡ unturn key n c.args.i = c.rotate_back.ensures ∙ unturn_is key n c.args.i (omega arith) in
     ((o.0, o.1, c.mask-w.ensures ∙ o.2), omega arith)
 
 pub unround-x-requires-in-loop-x : goal.unround-x-requires-in-loop-x
@@ -30,7 +30,7 @@ loop-x-init c =
     let lt : i < n = (turn_perm key n).g_lt c.args.i (omega arith) in
     let fits : n ≤ mask n + 1 = covers key n (omega arith) (omega arith) (omega arith) in
     let le : i ≤ mask n = omega arith in
-    let t : c.rotate-back.result ≡ i = c.rotate-back.ensures ∙ unturn_is key n c.args.i (omega arith) in
+    let t : c.rotate_back.result ≡ i = c.rotate_back.ensures ∙ unturn_is key n c.args.i (omega arith) in
     let u = unround_is key n (omega arith) (omega arith) (omega arith) i le in
     let e : c.unround-x.result ≡ unround (mask n) key i = cc in
     rw e (

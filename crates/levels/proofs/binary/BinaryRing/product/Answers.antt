@@ -5,4 +5,4 @@ pub multiply-requires : goal.multiply-requires
 multiply-requires c =
     let s = c.args.self.now.count in
     let h = c.args.self.now.served in
-    rw c.modulus-of.ensures.value (record { low = modulus_low s h; high = modulus_high s h; first = code_below s h _; second = code_below s h _ })
+    rw c.modulus_of.ensures.value (record { low = modulus_low s h; high = modulus_high s h; first = code_below s h _; second = code_below s h _ })
