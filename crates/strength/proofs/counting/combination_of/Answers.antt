@@ -25,17 +25,17 @@ module _ {X : Type 0} (f : X → ℕ) (xs : List X) (Q : Claim) (cs : List ℕ) 
       → n * Q.levels + at Q (map f xs) run (get_or cs k 0) < 65536
   fits k n l e = omega (arith, next k n l e, front_lt A cs C.many C.below run (k + 1) h)
 
-pub overflow-mul-n : goal.overflow-mul-n
-overflow-mul-n g c =
+pub overflow_mul-n : goal.overflow_mul-n
+overflow_mul-n g c =
     record { fits = omega (arith, fits g.C.Levelled.level c.args.table.now c.args.claim c.args.columns.now c.args.run c.requires.accepted c.requires.choice c.requires.within c.loop-k.k c.loop-k.n (omega arith) c.loop-k.invariant) }
 
-pub overflow-add-start : goal.overflow-add-start
-overflow-add-start g c =
+pub overflow_add-start : goal.overflow_add-start
+overflow_add-start g c =
     let stands = placed g.C.Levelled.level c.args.table.now c.args.claim c.args.columns.now c.args.run c.requires.accepted c.requires.choice c.requires.within in
     search rules
 
-pub offset-bounds-table-start : goal.offset-bounds-table-start
-offset-bounds-table-start g c =
+pub offset_bounds-table-start : goal.offset_bounds-table-start
+offset_bounds-table-start g c =
     let stands = placed g.C.Levelled.level c.args.table.now c.args.claim c.args.columns.now c.args.run c.requires.accepted c.requires.choice c.requires.within in
     search rules
 
@@ -49,8 +49,8 @@ read : {X : Type 0} (f : X → ℕ) (xs : List X) (Q : Claim) (cs : List ℕ) (r
     → run * Q.factors + get_or cs k 0 < length xs → x ≡ get_or xs (run * Q.factors + get_or cs k 0) x → n ≡ f x → n ≡ at Q (map f xs) run (get_or cs k 0)
 read f xs Q cs run k x n h is e = told f xs (run * Q.factors + get_or cs k 0) x n h is e
 
-pub overflow-add-n : goal.overflow-add-n
-overflow-add-n g c =
+pub overflow_add-n : goal.overflow_add-n
+overflow_add-n g c =
     let f = g.C.Levelled.level in
     let xs = c.args.table.now in
     let Q = c.args.claim in
@@ -82,8 +82,8 @@ loop-k-preserved g c =
 whole : (Q : Claim) (cells cs : List ℕ) (run k n : ℕ) → length cs ≤ k → n ≡ number_from_digits Q.levels (take k (shown Q cells cs run)) → n ≡ number_from_digits Q.levels (shown Q cells cs run)
 whole Q cells cs run k n h e = e ∙ ap (number_from_digits Q.levels) (take_all k (shown Q cells cs run) (omega (arith, length-map cs (at Q cells run))))
 
-pub overflow-cast-result : goal.overflow-cast-result
-overflow-cast-result g c =
+pub overflow_cast-result : goal.overflow_cast-result
+overflow_cast-result g c =
     record { fits = omega (arith, c.loop-k.invariant, front_lt c.requires.accepted c.args.columns.now c.requires.choice.many c.requires.choice.below c.args.run c.loop-k.k c.requires.within) }
 
 pub returns : goal.returns

@@ -15,14 +15,14 @@ returns-then-table-cells g c =
       | then-table-cells-via-else-table-cells+then-counters-combinations w ↦ w.if-counters-combinations.true (omega (arith, few.0))
     ])
 
-pub returns-in-Some-unknown-level : goal.returns-in-Some-unknown-level
-returns-in-Some-unknown-level g c =
+pub returns-in-Some-unknown_level : goal.returns-in-Some-unknown_level
+returns-in-Some-unknown_level g c =
     let long = length-map c.args.table.now g.C.Levelled.level in
     let few = c.in-Some.ensures in
-    let found = c.in-Some-unknown-level.ensures in
+    let found = c.in-Some-unknown_level.ensures in
     cell_refused c.args.claim (map g.C.Levelled.level c.args.table.now) c.args.counters
     (search rules)
-    (omega arith) (omega (arith, few.0)) c.in-Some-unknown-level.k found.0 found.1
+    (omega arith) (omega (arith, few.0)) c.in-Some-unknown_level.k found.0 found.1
 
 pub returns-in-None : goal.returns-in-None
 returns-in-None g c =

@@ -7,8 +7,8 @@ use Rattle.strength.specs.Steps.{Found, Search}
 use Rattle.strength.proofs.Choosing.{begun_more, front_kept, whole, too_few, found_here, on}
 use Rattle.strength.proofs.search.+first_failure.Goals as goal
 
-pub failure-at-requires : goal.failure-at-requires
-failure-at-requires g t c =
+pub failure_at-requires : goal.failure_at-requires
+failure_at-requires g t c =
     let Q = c.args.claim in
     let xs = c.args.columns.now in
     let all : take c.args.chosen xs ≡ xs = take_all c.args.chosen xs (omega arith) in
@@ -30,9 +30,9 @@ returns-then-chosen-columns g t c =
     let all : take c.args.chosen xs ≡ xs = take_all c.args.chosen xs (omega arith) in
     record {
       answer =
-          subst (λ zs. Search Q cells zs c.args.chosen c.args.low c.failure-at.result) (sym all)
-          (whole Q cells xs c.args.chosen c.args.low (omega (arith, c.requires.sized)) c.failure-at.result c.failure-at.ensures.answer);
-      counters = c.failure-at.ensures.counters;
+          subst (λ zs. Search Q cells zs c.args.chosen c.args.low c.failure_at.result) (sym all)
+          (whole Q cells xs c.args.chosen c.args.low (omega (arith, c.requires.sized)) c.failure_at.result c.failure_at.ensures.answer);
+      counters = c.failure_at.ensures.counters;
       chosen = refl {a = take c.args.chosen c.args.columns.now};
     }
 
@@ -45,8 +45,8 @@ returns-then-claim-low g t c =
       chosen = refl {a = take c.args.chosen c.args.columns.now};
     }
 
-pub first-failure-requires : goal.first-failure-requires
-first-failure-requires g t c κs within =
+pub first_failure-requires : goal.first_failure-requires
+first_failure-requires g t c κs within =
     let xs = c.args.columns.now in
     let k : ℕ = c.args.chosen in
     let low : ℕ = c.args.low in
@@ -69,16 +69,16 @@ returns-in-Some g t c =
           found_here Q cells (take k xs) k low c.in-Some.failure (omega arith)
           (subst (λ zs. Found Q cells zs (k + 1) (low + 1) c.in-Some.failure) (take_more_set xs k low (omega arith)) found.answer);
       counters = found.counters;
-      chosen = front_kept xs c.first-failure.new.columns k low found.chosen;
+      chosen = front_kept xs c.first_failure.new.columns k low found.chosen;
     }
 
-pub first-failure-requires-2 : goal.first-failure-requires-2
-first-failure-requires-2 g t c κs within =
+pub first_failure-requires-2 : goal.first_failure-requires-2
+first_failure-requires-2 g t c κs within =
     let xs = c.args.columns.now in
-    let ys = c.first-failure.new.columns in
+    let ys = c.first_failure.new.columns in
     let k : ℕ = c.args.chosen in
     let low : ℕ = c.args.low in
-    let before = c.in-default.ensures in
+    let before = c.in_default.ensures in
     let front : take k ys ≡ take k xs = front_kept xs ys k low before.chosen in
     let rising : Rising (take k ys) = subst Rising (sym front) c.requires.rising in
     let under : All (λ i. i < low + 1) (take k ys) = subst (All (λ i. i < low + 1)) (sym front) (All-weaker (λ i. i < low) (λ i. i < low + 1) (λ i h. omega arith) (take k xs) c.requires.below) in
@@ -90,16 +90,16 @@ returns g t c =
     let Q = c.args.claim in
     let cells = map g.C.Levelled.level c.args.table.now in
     let xs = c.args.columns.now in
-    let ys = c.first-failure.new.columns in
+    let ys = c.first_failure.new.columns in
     let k : ℕ = c.args.chosen in
     let low : ℕ = c.args.low in
-    let before = c.in-default.ensures in
+    let before = c.in_default.ensures in
     let front : take k ys ≡ take k xs = front_kept xs ys k low before.chosen in
     record {
       answer =
           on Q cells (take k xs) k low (omega arith)
           (subst (λ zs. Search Q cells zs (k + 1) (low + 1) None) (take_more_set xs k low (omega arith)) before.answer)
-          c.first-failure-2.result (subst (λ zs. Search Q cells zs k (low + 1) c.first-failure-2.result) front c.first-failure-2.ensures.answer);
-      counters = c.first-failure-2.ensures.counters;
-      chosen = c.first-failure-2.ensures.chosen ∙ front;
+          c.first_failure-2.result (subst (λ zs. Search Q cells zs k (low + 1) c.first_failure-2.result) front c.first_failure-2.ensures.answer);
+      counters = c.first_failure-2.ensures.counters;
+      chosen = c.first_failure-2.ensures.chosen ∙ front;
     }

@@ -20,14 +20,14 @@ module _ (xs : List ℕ) (long : length xs ≤ 17) (low : All (λ c. c < 17) xs)
       let all : sum_by (λ c. 2 ^ c) xs ≤ length xs * 65536 = sum_by_le (λ c. 2 ^ c) 65536 xs (All-weaker (λ c. c < 17) (λ c. 2 ^ c ≤ 65536) (λ c l. let q : c ≤ 16 = omega arith in pow_mono q) xs low) in
       omega (arith, next k n h e, sum_by-take-le (λ c. 2 ^ c) xs (k + 1), all)
 
-pub overflow-cast-bits : goal.overflow-cast-bits
-overflow-cast-bits c = record { fits = omega (arith, column c.args.columns.now c.requires.0 c.requires.1 c.loop-k.k (omega arith)) }
+pub overflow_cast-bits : goal.overflow_cast-bits
+overflow_cast-bits c = record { fits = omega (arith, column c.args.columns.now c.requires.0 c.requires.1 c.loop-k.k (omega arith)) }
 
-pub overflow-shl-bits : goal.overflow-shl-bits
-overflow-shl-bits c = omega (arith, column c.args.columns.now c.requires.0 c.requires.1 c.loop-k.k (omega arith))
+pub overflow_shl-bits : goal.overflow_shl-bits
+overflow_shl-bits c = omega (arith, column c.args.columns.now c.requires.0 c.requires.1 c.loop-k.k (omega arith))
 
-pub overflow-add-bits : goal.overflow-add-bits
-overflow-add-bits c = record { fits = fits c.args.columns.now c.requires.0 c.requires.1 c.loop-k.k c.loop-k.bits (omega arith) c.loop-k.invariant }
+pub overflow_add-bits : goal.overflow_add-bits
+overflow_add-bits c = record { fits = fits c.args.columns.now c.requires.0 c.requires.1 c.loop-k.k c.loop-k.bits (omega arith) c.loop-k.invariant }
 
 pub loop-k-preserved : goal.loop-k-preserved
 loop-k-preserved c = next c.args.columns.now c.requires.0 c.requires.1 c.loop-k.k c.loop-k.bits (omega arith) c.loop-k.invariant
