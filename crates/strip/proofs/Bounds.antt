@@ -35,13 +35,13 @@ joined_below P a b h k =
 pub sublevel_below : (P : Plan) {W : Ways} → ShuffleLaws W → (n j : ℕ) → n < P.labels → sublevel_at P W n j < P.labels / P.levels
 unfolding sublevel_at
 sublevel_below P M n j h =
-    M.out_Below _ _ _ (key_fits _ P.seed j)
+    M.out_below _ _ _ (key_fits _ P.seed j)
     ((div-lt_iff_lt-mul (omega (arith, P.several))).1 (subst (λ z. n < z) (labels_split P) h))
 
 pub level_below : (P : Plan) {R : Arithmetic} {W : Ways} → RingLaws R → ShuffleLaws W → R.count ≡ P.levels → (n j : ℕ) → level_at P R W n j < P.levels
 unfolding level_at
 level_below P {R} L M counts n j =
-    M.out_Below _ _ _ (key_fits _ P.seed j) (subst (λ z. value_at R P.strength n j < z) counts (value_code L P.strength n j))
+    M.out_below _ _ _ (key_fits _ P.seed j) (subst (λ z. value_at R P.strength n j < z) counts (value_code L P.strength n j))
 
 -- a strip has labels, and N/s of them for each level
 pub some_labels : (P : Plan) → 0 < P.labels

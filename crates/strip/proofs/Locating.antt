@@ -56,7 +56,7 @@ module _ (P : Plan) {R : Arithmetic} {W : Ways} (L : RingLaws R) (M : ShuffleLaw
 
   pub index_below : (k : ℕ) → k < P.labels → index P W k < P.labels
   unfolding index
-  index_below k h = M.out_Below P.seed P.labels k P.keyed h
+  index_below k h = M.out_below P.seed P.labels k P.keyed h
 
   module _ (j f : ℕ) (h : f < P.labels) where
     value_fits : value_of P W j f < P.levels

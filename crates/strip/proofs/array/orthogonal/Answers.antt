@@ -11,7 +11,7 @@ returns g c =
     let M = g.met.S.Shuffler.shuffles c.args.shuffler.now in (
       grind (arith, nat_tests),
       record {
-        names = names P L M (omega arith) (g.R.Dividing.inverse c.args.ring.now) c.gather-inverses.ensures;
+        names = names P L M (omega arith) (g.R.Dividing.inverse c.args.ring.now) c.gather_inverses.ensures;
         fine = names_fine P L M (omega arith);
       },
     )

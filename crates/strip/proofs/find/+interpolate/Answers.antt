@@ -18,5 +18,5 @@ returns-then-wishes-eq0 g t c =
 pub returns : goal.returns
 returns g t c =
     interp_placed (g.R.Ring.ring c.args.ring.now) (g.R.Dividing.inverse c.args.ring.now) c.args.wishes.now c.args.values.now
-    c.divide-differences.new.values c.interpolate.new.values c.rebuild-coefficients.new.values (length c.args.values.now - 1)
-    c.requires (omega arith) (cc) c.interpolate.ensures (λ v q e. let r = c.rebuild-coefficients.ensures v q e in cc)
+    c.divide_differences.new.values c.interpolate.new.values c.rebuild_coefficients.new.values (length c.args.values.now - 1)
+    c.requires (omega arith) (cc) c.interpolate.ensures (λ v q e. let r = c.rebuild_coefficients.ensures v q e in cc)

@@ -24,13 +24,13 @@ next b (suc k) n xs h l e =
     let is : suc k - 1 ≡ k = omega arith in
     rw is (ap (λ z. get_or xs k 0 + b * z) e ∙ sym (number_next b k xs l))
 
-pub overflow-mul-n : goal.overflow-mul-n
-overflow-mul-n c =
+pub overflow_mul-n : goal.overflow_mul-n
+overflow_mul-n c =
     let e = next c.args.base c.loop-k.k c.loop-k.n c.args.digits.now (omega arith) (omega arith) c.loop-k.invariant in
     record { fits = omega (arith, number_high c.args.base c.requires.0 (c.loop-k.k - 1) c.args.digits.now) }
 
-pub overflow-add-n : goal.overflow-add-n
-overflow-add-n c =
+pub overflow_add-n : goal.overflow_add-n
+overflow_add-n c =
     let e = next c.args.base c.loop-k.k c.loop-k.n c.args.digits.now (omega arith) (omega arith) c.loop-k.invariant in
     record { fits = omega (arith, number_high c.args.base c.requires.0 (c.loop-k.k - 1) c.args.digits.now) }
 

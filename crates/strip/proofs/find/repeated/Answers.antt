@@ -3,11 +3,11 @@ use Rattle.refusal.proofs.Places.{first_here, first_none}
 use Rattle.strip.specs.Wishes.{repeats}
 use Rattle.strip.proofs.find.repeated.Goals as goal
 
-pub returns-then-named-before : goal.returns-then-named-before
-returns-then-named-before c =
+pub returns-then-named_before : goal.returns-then-named_before
+returns-then-named_before c =
     let ws = c.args.wishes.now in (
       omega arith,
-      first_here (repeats ws) (length ws) c.loop-k.k (omega arith) c.loop-k.invariant (sym c.named-before.ensures ∙ c.if-named-before.true),
+      first_here (repeats ws) (length ws) c.loop-k.k (omega arith) c.loop-k.invariant (sym c.named_before.ensures ∙ c.if-named_before.true),
     )
 
 pub returns : goal.returns

@@ -22,7 +22,7 @@ loop-l-init g c = (refl, c.one-power.ensures.value, sym (ap (λ z. c.args.n / z)
 pub loop-l-preserved : goal.loop-l-preserved
 loop-l-preserved g c =
     let R : Arithmetic = g.R.Ring.ring c.args.ring.now in
-    let l : ℕ = c.loop-l.-l in
+    let l : ℕ = c.loop-l._l in
     let n : ℕ = c.args.n in
     let x : ℕ = c.args.x in
     let v = value_next R l n x in

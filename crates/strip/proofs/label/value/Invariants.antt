@@ -5,4 +5,4 @@ use Rattle.strip.proofs.label.value.Given as goal
 abbrev pub invariant-loop-l : goal.invariant-loop-l
 invariant-loop-l g l =
     let R = g.R.Ring.ring l.ring in
-    (l.total ≡ value_at R l.-l l.n l.x) × (l.power ≡ power R l.x l.-l) × (l.rest ≡ l.n / l.s ^ l.-l)
+    (l.total ≡ value_at R l._l l.n l.x) × (l.power ≡ power R l.x l._l) × (l.rest ≡ l.n / l.s ^ l._l)

@@ -6,6 +6,6 @@ use Rattle.std.proofs.Common.{rules}
 pub returns : goal.returns
 returns c =
     record {
-      steps = c.next-word.ensures;
-      goes = firm (less _ _ c.next-word.result c.next-word.ensures) (λ h. search rules);
+      steps = c.next_word.ensures;
+      goes = firm (less _ _ c.next_word.result c.next_word.ensures) (λ h. search rules);
     }

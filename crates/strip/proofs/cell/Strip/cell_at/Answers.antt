@@ -3,10 +3,10 @@ use Rattle.strip.specs.Labels.{fine_at}
 use Rattle.strip.proofs.Bounds.{joined_below}
 use Rattle.strip.proofs.cell.Strip.cell_at.Goals as goal
 
-pub overflow-cast-result-2 : goal.overflow-cast-result-2
-overflow-cast-result-2 g c =
+pub overflow_cast-result-2 : goal.overflow_cast-result-2
+overflow_cast-result-2 g c =
     let P = c.args.self.now.plan in
-    let h = joined_below P c.level-at-level.result c.sublevel-at-sublevel.result c.level-at-level.ensures.below c.sublevel-at-sublevel.ensures.below in
+    let h = joined_below P c.level_at-level.result c.sublevel_at-sublevel.result c.level_at-level.ensures.below c.sublevel_at-sublevel.ensures.below in
     record { fits = omega (arith, P.short) }
 
 pub returns : goal.returns

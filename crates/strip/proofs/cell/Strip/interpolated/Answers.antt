@@ -7,8 +7,8 @@ use Rattle.strip.proofs.Choosing.{placed_all}
 use Rattle.strip.proofs.Finding.{place_for, place_fits, named}
 use Rattle.strip.proofs.cell.Strip.interpolated.Goals as goal
 
-pub wished-values-requires : goal.wished-values-requires
-wished-values-requires g c =
+pub wished_values-requires : goal.wished_values-requires
+wished_values-requires g c =
     let P = c.args.self.now.plan in
     record {
       sized = c.requires.sized;
@@ -23,8 +23,8 @@ number-place-requires g c =
     let inv = g.R.Dividing.inverse S.ring in
     let ws = c.args.wishes.now in
     let place : number S.plan.levels c.interpolate.new.values ≡ place_for S.plan R inv W ws =
-    ap (number S.plan.levels) (c.interpolate.ensures ∙ ap (interp R inv (points_of ws)) c.wished-values.ensures) in
-    let fits = place_fits S.plan (g.met.R.Ring.laws S.ring) (g.met.S.Shuffler.shuffles S.shuffler) c.requires.counts inv c.gather-inverses.ensures ws c.requires.chosen in
+    ap (number S.plan.levels) (c.interpolate.ensures ∙ ap (interp R inv (points_of ws)) c.wished_values.ensures) in
+    let fits = place_fits S.plan (g.met.R.Ring.laws S.ring) (g.met.S.Shuffler.shuffles S.shuffler) c.requires.counts inv c.gather_inverses.ensures ws c.requires.chosen in
     (omega (arith, S.plan.several), omega (arith, S.plan.short))
 
 pub returns : goal.returns
@@ -35,7 +35,7 @@ returns g c =
     let inv = g.R.Dividing.inverse S.ring in
     let ws = c.args.wishes.now in
     let place : c.number-place.result ≡ place_for S.plan R inv W ws =
-    c.number-place.ensures ∙ ap (number S.plan.levels) (c.interpolate.ensures ∙ ap (interp R inv (points_of ws)) c.wished-values.ensures) in
+    c.number-place.ensures ∙ ap (number S.plan.levels) (c.interpolate.ensures ∙ ap (interp R inv (points_of ws)) c.wished_values.ensures) in
     let label : c.back.result ≡ W.back S.plan.seed S.plan.labels (place_for S.plan R inv W ws) = cc in
     subst (λ i. Named S.plan R W ws i) (sym label)
-    (named S.plan (g.met.R.Ring.laws S.ring) (g.met.S.Shuffler.shuffles S.shuffler) c.requires.counts inv c.gather-inverses.ensures ws c.requires.chosen)
+    (named S.plan (g.met.R.Ring.laws S.ring) (g.met.S.Shuffler.shuffles S.shuffler) c.requires.counts inv c.gather_inverses.ensures ws c.requires.chosen)

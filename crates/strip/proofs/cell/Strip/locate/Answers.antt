@@ -5,11 +5,11 @@ use Rattle.strip.proofs.Bounds.{size_positive}
 use Rattle.strip.proofs.Locating.{place_of, located}
 use Rattle.strip.proofs.cell.Strip.locate.Goals as goal
 
-pub nonzero-div-fine : goal.nonzero-div-fine
-nonzero-div-fine g c = size_positive c.args.self.now.plan
+pub nonzero_div-fine : goal.nonzero_div-fine
+nonzero_div-fine g c = size_positive c.args.self.now.plan
 
-pub nonzero-rem-fine : goal.nonzero-rem-fine
-nonzero-rem-fine g c = size_positive c.args.self.now.plan
+pub nonzero_rem-fine : goal.nonzero_rem-fine
+nonzero_rem-fine g c = size_positive c.args.self.now.plan
 
 pub returns : goal.returns
 returns g c =

@@ -11,7 +11,7 @@ returns g c =
     let M = g.met.S.Shuffler.shuffles S.shuffler in (
       grind (arith, nat_tests),
       record {
-        names = names S.plan L M (omega arith) (g.R.Dividing.inverse S.ring) c.gather-inverses.ensures;
+        names = names S.plan L M (omega arith) (g.R.Dividing.inverse S.ring) c.gather_inverses.ensures;
         fine = names_fine S.plan L M (omega arith);
       },
     )

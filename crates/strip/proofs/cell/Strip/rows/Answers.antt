@@ -16,9 +16,9 @@ returns g c =
     record {
       answer = (
         grind (arith, nat_tests),
-        subst (λ z. W c.args.first c.args.count start xs (put_mid start z xs c.write-rows.new.part)) (sym size)
-            (part_written c.args.first c.args.count start xs c.write-rows.new.part (omega arith)
-            (subst (λ z. W c.args.first c.args.count 0 (take z (drop start xs)) c.write-rows.new.part) size c.write-rows.ensures)),
+        subst (λ z. W c.args.first c.args.count start xs (put_mid start z xs c.write_rows.new.part)) (sym size)
+            (part_written c.args.first c.args.count start xs c.write_rows.new.part (omega arith)
+            (subst (λ z. W c.args.first c.args.count 0 (take z (drop start xs)) c.write_rows.new.part) size c.write_rows.ensures)),
       );
       same = tt;
     }

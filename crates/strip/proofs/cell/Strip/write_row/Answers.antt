@@ -4,8 +4,8 @@ use Rattle.strip.specs.Rows.{blank}
 use Rattle.strip.proofs.Writing.{row_written}
 use Rattle.strip.proofs.cell.Strip.write_row.Goals as goal
 
-pub cell-at-requires : goal.cell-at-requires
-cell-at-requires g c =
+pub cell_at-requires : goal.cell_at-requires
+cell_at-requires g c =
     let S = c.args.self.now in
     record {
       counts = c.requires.counts;
