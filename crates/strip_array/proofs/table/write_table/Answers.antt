@@ -29,7 +29,7 @@ pub returns : goal.returns
 returns g c =
     let S = c.args.strip.now in
     let R = g.R.Ring.ring S.ring in
-    let o = c.in-ok-orthogonal.ensures in
+    let o = c.in_ok-orthogonal.ensures in
     record {
       answer = told S.plan R (g.S.Shuffler.ways S.shuffler) (g.met.R.Ring.laws S.ring) (g.met.S.Shuffler.shuffles S.shuffler) (grind (arith, nat_tests)) o.1 c.args.table.now c.rows.new.table c.rows.result c.rows.ensures.answer;
       same = c.rows.ensures.same;

@@ -33,8 +33,8 @@ loop-question-preserved g c =
       omega arith,
       omega arith,
       λ finished p sized shows leaves.
-          one_more (Replied S.plan (g.R.Ring.ring S.ring) (g.S.Shuffler.ways S.shuffler) finished p) c.args.questions.now (vec_items c.loop-question.replies) (vec_items c.push-reserved.new.self)
-          c.loop-question.question-index c.question-item.result c.reply.result (sym c.loop-question.replies.ok.0 ∙ so_far.0) c.loop-question-test.true c.question-item.is c.push-reserved.ensures.items
+          one_more (Replied S.plan (g.R.Ring.ring S.ring) (g.S.Shuffler.ways S.shuffler) finished p) c.args.questions.now (vec_items c.loop-question.replies) (vec_items c.push_reserved.new.self)
+          c.loop-question.question-index c.question-item.result c.reply.result (sym c.loop-question.replies.ok.0 ∙ so_far.0) c.loop-question-test.true c.question-item.is c.push_reserved.ensures.items
           (so_far.2 finished p sized shows leaves) (c.reply.ensures finished p sized shows leaves),
     )
 
@@ -46,10 +46,10 @@ returns g c =
     let W = g.S.Shuffler.ways S.shuffler in
     let calls = c.args.calls.now in
     let questions = c.args.questions.now in
-    let answers = vec_items c.in-ok-ran.ran.answers in
+    let answers = vec_items c.in_ok-ran.ran.answers in
     let replies = vec_items c.loop-question.replies in
-    let exact = c.in-ok-orthogonal.ensures in
-    let ran = c.in-ok-ran.ensures.row in
+    let exact = c.in_ok-orthogonal.ensures in
+    let ran = c.in_ok-ran.ensures.row in
     let after = ran.1.after in
     let sized : Sized P.labels after = row_kept P.labels (opened P.labels) after calls answers (sized_opened P.labels (some_labels P)) ran.1.answers in
     let all : c.loop-question.question-index ≡ length questions = omega arith in

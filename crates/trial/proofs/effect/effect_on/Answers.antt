@@ -9,9 +9,9 @@ returns g c =
     let P = S.plan in
     let R = g.R.Ring.ring S.ring in
     let W = g.S.Shuffler.ways S.shuffler in
-    let kept : to_z w64 (of_z w64 c.signed-difference.result) ≡ c.signed-difference.result = search rules in
-    let o = c.in-ok-orthogonal.ensures in (
-      effect_clear P R c.args.words.now c.args.factor c.args.a c.args.b o.0 c.in-ok-graded.ensures.0 (omega arith) (omega arith) (omega arith),
+    let kept : to_z w64 (of_z w64 c.signed_difference.result) ≡ c.signed_difference.result = search rules in
+    let o = c.in_ok-orthogonal.ensures in (
+      effect_clear P R c.args.words.now c.args.factor c.args.a c.args.b o.0 c.in_ok-graded.ensures.0 (omega arith) (omega arith) (omega arith),
       effect_shares P R W (g.met.R.Ring.laws S.ring) (g.met.S.Shuffler.shuffles S.shuffler) (count_same P R o.0) o.1 c.args.words.now c.args.factor c.args.a c.args.b (omega arith) (omega arith) (omega arith) _
-          (kept ∙ c.signed-difference.ensures ∙ ap₂ ◌-ℤ◌ c.grades-at-high.ensures.value c.grades-at-low.ensures.value),
+          (kept ∙ c.signed_difference.ensures ∙ ap₂ ◌-ℤ◌ c.grades_at-high.ensures.value c.grades_at-low.ensures.value),
     )

@@ -6,7 +6,7 @@ use Rattle.design.proofs.Sums.{only_same, only_other}
 use Rattle.strip.specs.Labels.{level}
 use Rattle.trial.specs.Effects.{grade_of}
 use Rattle.trial.proofs.finished.grades_over.Goals as goal
-use Rattle.trial.proofs.finished.grades_over.Goals.{then-known-level-wanted, else-known-level-wanted}
+use Rattle.trial.proofs.finished.grades_over.Goals.{then-known_level-wanted, else-known_level-wanted}
 
 -- one label more: its grade counts where it has the level, and else nothing does
 more : (level : ℕ → ℕ → ℕ) (f a n sum x : ℕ) (h : ℕ → ℤ) → pos sum ≡ sum_at n level f a h → h n ≡ pos x → level n f ≡ a → pos (sum + x) ≡ sum_at (n + 1) level f a h
@@ -27,17 +27,17 @@ loop-label-preserved g c =
     let n : ℕ = c.loop-label.label in
     let h = grade_of c.args.words.now in
     let wide : (n + 1) * 65536 ≡ n * 65536 + 65536 = add-mul n 1 65536 in
-    elim c.if-known-level-wanted.branch [
-      | then-known-level-wanted w ↦
-          let x : ℕ = w.saturating-sub.result in
-          let fits = (c.type-inv.words n).fits in (
+    elim c.if-known_level-wanted.branch [
+      | then-known_level-wanted w ↦
+          let x : ℕ = w.saturating_sub.result in
+          let fits = (c.type_inv.words n).fits in (
             subst (λ z. pos z ≡ sum_at (n + 1) levels c.args.factor c.args.wanted h) (sym w.sum-is)
-                (more levels c.args.factor c.args.wanted n c.loop-label.sum x h c.loop-label.invariant.0 (ap pos (sym w.saturating-sub.ensures)) (sym c.known-level.ensures ∙ w.if-known-level-wanted.true)),
-            omega (arith, w.sum-is, w.saturating-sub.ensures, c.loop-label.invariant.1),
+                (more levels c.args.factor c.args.wanted n c.loop-label.sum x h c.loop-label.invariant.0 (ap pos (sym w.saturating_sub.ensures)) (sym c.known_level.ensures ∙ w.if-known_level-wanted.true)),
+            omega (arith, w.sum-is, w.saturating_sub.ensures, c.loop-label.invariant.1),
           )
-      | else-known-level-wanted w ↦ (
+      | else-known_level-wanted w ↦ (
         subst (λ z. pos z ≡ sum_at (n + 1) levels c.args.factor c.args.wanted h) (sym w.sum-is)
-            (none levels c.args.factor c.args.wanted n c.loop-label.sum h c.loop-label.invariant.0 (λ e. w.if-known-level-wanted.false (c.known-level.ensures ∙ e))),
+            (none levels c.args.factor c.args.wanted n c.loop-label.sum h c.loop-label.invariant.0 (λ e. w.if-known_level-wanted.false (c.known_level.ensures ∙ e))),
         omega (arith, w.sum-is, c.loop-label.invariant.1),
       )
     ]

@@ -7,18 +7,18 @@ use Rattle.listing.proofs.Carried.{carried}
 use Rattle.listing.proofs.RowCells.{cells_taken}
 use Rattle.listing.proofs.listing.Listing.write_cells.Goals as goal
 
-pub returns-in-err-rows : goal.returns-in-err-rows
-returns-in-err-rows c =
+pub returns-in_err-rows : goal.returns-in_err-rows
+returns-in_err-rows c =
     let S = c.args.self.now.strip in
-    let f = c.in-err-rows.field-0.0 in
-    carried (rows_rows S.plan (meaning S.ring) c.args.label 1 0 16) f _ c.from-residual.result
-    (subst (λ n. refusal (rows_rows S.plan (meaning S.ring) c.args.label 1 0 n) ≡ Some (strip_slip f)) c.requires c.in-err-rows.ensures.answer)
-    c.from-residual.ensures.1
+    let f = c.in_err-rows.field-0.0 in
+    carried (rows_rows S.plan (meaning S.ring) c.args.label 1 0 16) f _ c.from_residual.result
+    (subst (λ n. refusal (rows_rows S.plan (meaning S.ring) c.args.label 1 0 n) ≡ Some (strip_slip f)) c.requires c.in_err-rows.ensures.answer)
+    c.from_residual.ensures.1
 
 pub returns : goal.returns
 returns c =
     let S = c.args.self.now.strip in
-    let a = c.in-ok-rows.ensures.answer in (
+    let a = c.in_ok-rows.ensures.answer in (
       subst (λ n. refusal (rows_rows S.plan (meaning S.ring) c.args.label 1 0 n) ≡ None) c.requires a.0,
       cells_taken c.args.label c.args.cells.now c.rows.new.table a.1 (omega (arith, a.1.sized, S.plan.named, S.plan.few)) S.plan.factors (omega arith),
     )
