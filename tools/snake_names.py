@@ -19,8 +19,8 @@ LIKE_THE_LIBRARY = {"add-mod", "add-mul", "add-zero", "mul-zero", "zero-add", "z
 # a lemma that would get its function's name
 LEMMAS = {"is-graded": "is_graded_lem", "is-blank": "is_blank_lem", "grade-of": "grade_of_lem"}
 
-# another name that an import gives
-ALIASES = {"inverseIn": "inverse_in"}
+# another name that an import gives, and types in camel case
+ALIASES = {"inverseIn": "inverse_in", "Sum-laws": "SumLaws", "Designs-exist": "DesignsExist"}
 
 
 def snake(name):

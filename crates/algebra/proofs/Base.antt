@@ -1,5 +1,5 @@
 -- Numbers below s^t and lists of t digits. Assumes nothing.
-use Rattle.std.proofs.Common.{◌≡◌, ℕ, zero, suc, ◌+◌, ◌*◌, ◌/◌, ◌%◌, ◌^◌, ◌<◌, List, [], ◌∷◌, length, sym, refl, ap, ◌∙◌, subst, ap₂, mod-lt, mod-eq_of_lt, div-lt_iff_lt-mul, pow-suc, arith}
+use Rattle.std.proofs.Common.{◌≡◌, ℕ, zero, suc, ◌+◌, ◌*◌, ◌/◌, ◌%◌, ◌^◌, ◌<◌, List, [], ◌∷◌, length, refl, ap, ◌∙◌, ap₂, mod-lt, mod-eq_of_lt, div-lt_iff_lt-mul, pow-suc, arith}
 use native.Mathlib.Nat.{pow-zero, mod-add-div, add-mul-mod_self_left, add-mul-div_left, div-eq_of_lt}
 use lib.Arith.{digits_lt}
 use Rattle.std.specs.List.{AllByRecursion as All}

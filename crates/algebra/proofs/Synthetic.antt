@@ -1,5 +1,5 @@
 -- Synthetic division by x - x0, and how a polynomial is rebuilt from it. Assumes nothing.
-use Rattle.std.proofs.Common.{◌≡◌, ℕ, zero, suc, ◌+◌, ◌<◌, ◌≤◌, List, [], ◌∷◌, map, length, sym, refl, ap, ◌∙◌, subst, ap₂, arith}
+use Rattle.std.proofs.Common.{◌≡◌, ℕ, suc, ◌<◌, List, [], ◌∷◌, length, sym, refl, ap, ◌∙◌, ap₂}
 use Rattle.levels.specs.Rings.{Arithmetic, RingLaws}
 use Rattle.levels.specs.Ring.{zero_code, mul_left_comm, sub_intro, sub_self, mul-zero, zero-mul, parts}
 use Rattle.algebra.specs.Polynomials.{Codes, eval}

@@ -1,5 +1,5 @@
 -- Interpolation at points whose differences have inverses: there is one list of coefficients, and no other. Assumes nothing.
-use Rattle.std.proofs.Common.{◌≡◌, ℕ, zero, suc, ◌+◌, ◌<◌, ◌≤◌, List, [], ◌∷◌, map, length, sym, refl, ap, ◌∙◌, subst, ap₂, arith}
+use Rattle.std.proofs.Common.{◌≡◌, ℕ, suc, ◌<◌, List, [], ◌∷◌, map, length, sym, refl, ap, ◌∙◌, ap₂, arith}
 use mathlib.Core.List.{head-eq_of_cons-eq, tail-eq_of_cons-eq}
 use Rattle.std.specs.List.{AllByRecursion as All}
 use Rattle.levels.specs.Rings.{Arithmetic, RingLaws}
@@ -7,7 +7,7 @@ use Rattle.levels.specs.Ring.{mul_left_comm, cancel, mul_cancel}
 use Rattle.algebra.specs.Polynomials.{Codes, eval}
 use Rattle.algebra.specs.Interpolation.{rebuild, slopes, interp}
 use Rattle.algebra.specs.Units.{Apart}
-use Rattle.algebra.specs.Theorems.{Takes, Interpolates}
+use Rattle.algebra.specs.Theorems.{Interpolates}
 use Rattle.algebra.proofs.Synthetic.{quot, eval_code, divide, length_quot, codes_quot, length_rebuild, codes_rebuild, eval_rebuild, eval_rebuild_self, rebuild_quot}
 
 pub length_slopes : (R : Arithmetic) (inv : ℕ → ℕ) (x v : ℕ) (ys ws : List ℕ) → length ys ≡ length ws → length ys ≡ length (slopes R inv x v ys ws)

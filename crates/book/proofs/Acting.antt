@@ -1,5 +1,5 @@
 -- One call of a row on a book, from what the book's own call returned. Assumes nothing.
-use Rattle.std.proofs.Common.{◌≡◌, ℕ, Bool, false, eqb, List, length, Some, None, Ok, Err, Result, sym, refl, ap, ◌∙◌, subst, arith}
+use Rattle.std.proofs.Common.{◌≡◌, ℕ, false, List, length, Some, None, Ok, Err, Result, sym, refl, ap, ◌∙◌, subst}
 use Rattle.std.proofs.lemmas.Bool.{ne_eqb}
 use Rattle.refusal.specs.declared.Slip.{Slip}
 use Rattle.refusal.specs.Table.{Row, refusal, Answers}

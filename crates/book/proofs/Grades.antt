@@ -1,5 +1,5 @@
 -- What strip done, and an accepted finish, say of the labels of the plain book. Assumes nothing.
-use Rattle.std.proofs.Common.{◌≡◌, ℕ, ◌<◌, Bool, true, false, cond, not, ◌&&◌, ◌⊎◌, List, map, length, get_or, Some, None, unwrap_or, sym, refl, ap, ◌∙◌, inl, inr, ⊎_elim, arith}
+use Rattle.std.proofs.Common.{◌≡◌, ℕ, ◌<◌, Bool, true, false, cond, not, ◌&&◌, map, length, get_or, Some, None, unwrap_or, sym, refl, ap, ◌∙◌, inl, inr, ⊎_elim, arith}
 use lib.ListN.{length-map}
 use Rattle.std.proofs.lemmas.Bool.{cases_Bool, both_ways, not-true, not-false, and_right, eq-eqb}
 use Rattle.refusal.specs.declared.Slip.{Slip}

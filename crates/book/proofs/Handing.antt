@@ -1,5 +1,5 @@
 -- What is handed in at a call of a row: the N words where it names N, and else memory of another length. Assumes nothing.
-use Rattle.std.proofs.Common.{◌≡◌, ℕ, ◌<◌, ◌≤◌, Bool, true, false, cond, leb, ◌⊎◌, List, [], ◌∷◌, ◌++◌, length, take, drop, sym, refl, ap, ◌∙◌, subst, ⊎_elim, append-nil, arith, take-append-drop}
+use Rattle.std.proofs.Common.{◌≡◌, ℕ, ◌<◌, ◌≤◌, cond, leb, List, ◌++◌, length, take, drop, sym, refl, ap, ◌∙◌, subst, ⊎_elim, append-nil, arith, take-append-drop}
 use Rattle.std.proofs.lemmas.List.{take_all, drop_all, length-take-le}
 use Rattle.std.proofs.lemmas.Bool.{cases_eq, cond_both, cond-true, le-leb, leb-true, ne_eqb}
 use Rattle.book.specs.declared.shape.Book.{Book}
@@ -12,7 +12,7 @@ use Rattle.book.specs.Standings.{standings}
 use Rattle.book.specs.Faults.{slip_of}
 use Rattle.book.specs.Calls.{len_of}
 use Rattle.book.specs.Plain.{Plain}
-use Rattle.book.specs.Turns.{Holds, Turned, Unfit}
+use Rattle.book.specs.Turns.{Holds, Turned}
 use Rattle.book.proofs.Simulation.{shows_length, unfit_table, refused_moves}
 use Rattle.book.proofs.Acting.{Acts}
 

@@ -1,5 +1,5 @@
 -- What the table gives at each call, once the memory handed in fits. Assumes nothing.
-use Rattle.std.proofs.Common.{◌≡◌, ℕ, ◌<◌, ◌≤◌, Bool, true, false, cond, not, ◌&&◌, ◌||◌, eqb, leb, ◌⊎◌, List, [], ◌∷◌, length, get_or, is_some, Some, None, Option, unwrap_or, sym, refl, ap, ◌∙◌, subst, ⊎_elim, arith}
+use Rattle.std.proofs.Common.{◌≡◌, ℕ, ◌<◌, ◌≤◌, Bool, true, false, cond, not, ◌&&◌, eqb, leb, List, length, get_or, is_some, Some, None, Option, unwrap_or, refl, ap, ◌∙◌, arith}
 use lib.ListN.{length-map}
 use Rattle.std.proofs.lemmas.Bool.{eqb-true, not-false}
 use Rattle.refusal.specs.declared.Slip.{Slip}
@@ -11,11 +11,11 @@ use Rattle.book.specs.declared.calls.Call.{Call}
 use Rattle.book.specs.declared.calls.Call.TheVariants.{Take, Mark, Spoil, Strike, Finish}
 use Rattle.book.specs.declared.deed.Deed.{Deed}
 use Rattle.book.specs.declared.deed.Deed.TheVariants as deed
-use Rattle.book.specs.Standings.{standing, standings, is_waiting, is_out, is_graded, is_torn, stops, unready}
+use Rattle.book.specs.Standings.{standing, standings, is_out, is_graded, is_torn, stops, unready}
 use Rattle.book.specs.Faults.{slip_of}
 use Rattle.book.specs.Calls.{len_of}
 use Rattle.book.specs.Deeds.{asked, is_high, against}
-use Rattle.book.specs.Search.{first, lowest, some, each, stop}
+use Rattle.book.specs.Search.{lowest, some, each, stop}
 use Rattle.book.specs.Conditions.{opening, finishing, table}
 use Rattle.book.proofs.Upward.{none_at, some_from, none_from, stop_none, stop_some}
 

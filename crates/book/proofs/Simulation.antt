@@ -1,5 +1,5 @@
 -- A book over words does what the plain book does that it stands for. Assumes nothing.
-use Rattle.std.proofs.Common.{◌≡◌, ℕ, ◌+◌, ◌-◌, ◌<◌, ◌≤◌, Bool, true, false, cond, eqb, ltb, leb, ◌⊎◌, List, [], ◌∷◌, map, length, set, Some, None, Ok, Err, Result, sym, refl, ap, ◌∙◌, subst, inl, inr, arith}
+use Rattle.std.proofs.Common.{◌≡◌, ℕ, ◌+◌, false, eqb, ltb, List, map, length, set, Some, None, Ok, Err, Result, sym, refl, ap, ◌∙◌, subst, inl, inr, arith}
 use lib.ListN.{length-map}
 use Rattle.std.proofs.lemmas.List.{map-set}
 use Rattle.std.proofs.lemmas.Bool.{cond-true, cond-false, ltb-false, le-leb, ne_eqb}
@@ -7,7 +7,7 @@ use Rattle.refusal.specs.declared.Slip.{Slip}
 use Rattle.refusal.specs.Table.{refusal, Answers}
 use Rattle.refusal.proofs.Firsts.{none_only}
 use Rattle.book.specs.declared.standing.Standing.{Standing}
-use Rattle.book.specs.declared.standing.Standing.TheVariants.{Waiting, Out, Graded}
+use Rattle.book.specs.declared.standing.Standing.TheVariants.{Graded}
 use Rattle.book.specs.declared.fault.BookFault.{BookFault}
 use Rattle.book.specs.declared.shape.Book.{Book}
 use Rattle.book.specs.declared.calls.Call.{Call}

@@ -1,11 +1,10 @@
 -- The plain book has exactly one answer to a call, and one book after it. Assumes nothing.
-use Rattle.std.proofs.Common.{◌≡◌, ℕ, zero, suc, ◌+◌, ◌<◌, ◌≤◌, Bool, true, false, cond, not, ◌||◌, eqb, ltb, ◌⊎◌, List, [], ◌∷◌, map, length, get_or, set, replicate, Some, None, Option, sym, refl, ap, ◌∙◌, subst, inl, inr, ⊎_elim, arith, length-set}
+use Rattle.std.proofs.Common.{◌≡◌, ℕ, zero, suc, ◌+◌, ◌<◌, ◌≤◌, true, false, ltb, List, [], ◌∷◌, map, length, get_or, set, Some, None, Option, sym, refl, ap, ◌∙◌, subst, inl, inr, ⊎_elim, arith, length-set}
 use lib.ListN.{length-map, length-replicate}
 use Rattle.std.proofs.lemmas.Bool.{cases_Bool, cases_eq, both_ways, cond_both, ltb-true}
 use Rattle.refusal.specs.declared.Slip.{Slip}
 use Rattle.refusal.specs.Table.{refusal}
-use Rattle.book.specs.declared.standing.Standing.{Standing}
-use Rattle.book.specs.declared.standing.Standing.TheVariants.{Waiting, Out, Graded}
+use Rattle.book.specs.declared.standing.Standing.TheVariants.{Waiting}
 use Rattle.book.specs.declared.calls.Call.{Call}
 use Rattle.book.specs.declared.calls.Call.TheVariants.{Take, Mark, Spoil, Strike, Finish}
 use Rattle.book.specs.declared.calls.Answer.{Answer}
@@ -13,7 +12,7 @@ use Rattle.book.specs.declared.calls.Answer.TheVariants.{Took, Done, Finished, R
 use Rattle.book.specs.Standings.{is_out, stops}
 use Rattle.book.specs.Search.{some, stop, FirstStop}
 use Rattle.book.specs.Books.{next}
-use Rattle.book.specs.Plain.{Label, waiting, out, graded, Plain, opened, stand, conditions, Takes, put, Does, Refuses, Accepts, Step}
+use Rattle.book.specs.Plain.{Label, waiting, out, graded, Plain, opened, stand, conditions, Takes, put, Does, Step}
 use Rattle.book.specs.Laws.{Sized, OneStep}
 use Rattle.book.proofs.Upward.{one_sooner, stop_some}
 use Rattle.book.proofs.Lines.{given_none, same_slip, fits_call, take_out, take_done}

@@ -1,10 +1,10 @@
 -- Steps and laws of the search upward through the labels. Assumes nothing.
-use Rattle.std.proofs.Common.{◌≡◌, ℕ, zero, suc, ◌+◌, ◌-◌, ◌<◌, ◌≤◌, Bool, true, false, cond, not, ◌||◌, ◌⊎◌, List, [], ◌∷◌, map, length, get_or, is_some, Some, None, Option, sym, refl, ap, ◌∙◌, subst, inl, inr, ⊎_elim, arith}
+use Rattle.std.proofs.Common.{◌≡◌, ℕ, zero, suc, ◌+◌, ◌-◌, ◌<◌, ◌≤◌, Bool, true, false, cond, ◌⊎◌, List, [], ◌∷◌, length, get_or, is_some, Some, None, Option, sym, refl, ap, ◌∙◌, subst, inl, inr, ⊎_elim, arith}
 use native.Mathlib.Nat.{sub-zero}
 use lib.ListN.{length-map}
 use Rattle.std.proofs.lemmas.Bool.{cases_Bool, cases_lt, cases_order, cases_eq, both_ways, cond-true, cond-false}
 use Rattle.book.specs.declared.standing.Standing.{Standing}
-use Rattle.book.specs.declared.standing.Standing.TheVariants.{Waiting, Out, Graded, Torn}
+use Rattle.book.specs.declared.standing.Standing.TheVariants.{Waiting}
 use Rattle.book.specs.Standings.{standing, standings, stops}
 use Rattle.book.specs.Search.{first, lowest, some, or_else, stop, Sooner, FirstStop}
 use Rattle.book.specs.Laws.{StopLaw}

@@ -8,7 +8,7 @@
 --   finishing  .. at a finish
 --   table      .. at any call
 -- Assumes nothing.
-use Rattle.std.specs.Prelude.{ℕ, Bool, not, ◌&&◌, List, [], ◌∷◌, ◌==◌, nat_le, slice_index_or}
+use Rattle.std.specs.Prelude.{ℕ, not, ◌&&◌, List, [], ◌∷◌, ◌==◌, nat_le, slice_index_or}
 use Rattle.std.specs.Option.{unwrap_or}
 use Rattle.refusal.specs.Table.{Row}
 use Rattle.book.specs.declared.standing.Standing.{Standing}

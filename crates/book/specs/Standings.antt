@@ -4,7 +4,7 @@
 --   code       the word that a call writes for a standing
 --   is_waiting, is_out, is_graded, is_torn  which standing it is
 -- Assumes nothing.
-use Rattle.std.specs.Prelude.{ℕ, ◌+◌, ◌-◌, Bool, true, false, cond, not, ◌||◌, List, map, ◌==◌, nat_le}
+use Rattle.std.specs.Prelude.{ℕ, ◌+◌, ◌-◌, Bool, true, false, cond, ◌||◌, List, map, ◌==◌, nat_le}
 use Rattle.book.specs.declared.standing.Standing.{Standing}
 use Rattle.book.specs.declared.standing.Standing.TheVariants.{Waiting, Out, Graded, Torn}
 

@@ -1,8 +1,8 @@
 -- A test that a table of levels is a design, and two tables that pass. Assumes nothing.
-use Rattle.std.proofs.Common.{◌≡◌, ℕ, zero, suc, ◌^◌, ◌<◌, ◌≤◌, Bool, true, false, not, ◌&&◌, ◌||◌, T, eqb, ltb, leb, ◌⊎◌, List, [], ◌∷◌, map, length, sym, refl, ap, ◌∙◌, subst, inl, inr, ⊎_elim, arith, eqb→eq, ltb→lt}
+use Rattle.std.proofs.Common.{◌≡◌, ℕ, zero, suc, ◌^◌, ◌<◌, ◌≤◌, Bool, true, false, not, ◌&&◌, ◌||◌, T, eqb, ltb, List, [], ◌∷◌, map, length, sym, refl, ap, ◌∙◌, subst, inl, inr, arith, eqb→eq, ltb→lt}
 use lib.Dec.{eqb_refl, not_T}
-use Rattle.design.specs.Designs.{In, Distinct, Factors, Meets, Design}
-use Rattle.design.specs.Models.{four, eight, Designs-exist}
+use Rattle.design.specs.Designs.{In, Distinct, Meets, Design}
+use Rattle.design.specs.Models.{four, eight, DesignsExist}
 use Rattle.design.proofs.Sums.{by_eq}
 
 both : (a b : Bool) → T (a && b) → T a × T b
@@ -133,7 +133,7 @@ checked N s d t level size least most a b c = record {
       eqb→eq i k (given (meets level i F (map (level k) F)) (eqb i k) u (meets_in level (level k) i F (λ j e. m j e ∙ sym (n j e))));
 }
 
-pub designs_exist : Designs-exist
+pub designs_exist : DesignsExist
 unfolding found_test alone_test inside_test each_list all_to any_to meets distinct lacks implies
 designs_exist = (
   checked 4 2 3 2 four refl (omega arith) (omega arith) tt tt tt,

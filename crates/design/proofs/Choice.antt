@@ -1,6 +1,6 @@
 -- Factors that are not yet used. Assumes nothing.
 use Rattle.std.proofs.Common.{◌≡◌, ℕ, zero, suc, ◌+◌, ◌<◌, ◌≤◌, ◌⊎◌, List, [], ◌∷◌, length, sym, refl, ap, ◌∙◌, subst, inl, inr, ⊎_elim, arith}
-use Rattle.design.specs.Designs.{In, Distinct, Factors}
+use Rattle.design.specs.Designs.{In, Factors}
 use Rattle.design.proofs.Sums.{by_eq}
 
 -- G without one n

@@ -1,10 +1,10 @@
 -- Fibres, and the effect of a factor. Assumes nothing.
-use Rattle.std.proofs.Common.{◌≡◌, ℕ, zero, suc, ◌+◌, ◌*◌, ◌/◌, ◌<◌, ◌≤◌, ◌⊎◌, List, [], ◌∷◌, length, ℤ, pos, negsuc, ◌+ℤ◌, ◌-ℤ◌, ◌*ℤ◌, sym, refl, ap, ◌∙◌, subst, inl, inr, ⊎_elim, arith}
+use Rattle.std.proofs.Common.{◌≡◌, ℕ, zero, suc, ◌*◌, ◌/◌, ◌<◌, ◌≤◌, List, [], ◌∷◌, length, ℤ, pos, negsuc, ◌+ℤ◌, ◌-ℤ◌, ◌*ℤ◌, sym, refl, ap, ◌∙◌, inl, ⊎_elim, arith}
 use native.Mathlib.Nat.{div-eq_of_eq-mul_right}
 use lib.IntN.{*ℤ_comm}
 use borrow.Author.Differences.{ints, same_out}
 use Rattle.design.specs.Sums.{sum_to, only}
-use Rattle.design.specs.Designs.{In, Factors, Meets, Design, Depends, sum_at}
+use Rattle.design.specs.Designs.{Factors, Design, Depends, sum_at}
 use Rattle.design.specs.Claims.{Fibre, Effect}
 use Rattle.design.proofs.Sums.{except, by_eq, only_same, only_other, except_same, only_iff, only_add, only_sum, mul_sub, sum_same, sum_add, sum_scale, sum_swap, sum_single, sum_split, sum_const}
 use Rattle.design.proofs.Choice.{none, more}

@@ -1,8 +1,8 @@
 -- The exchange of two levels, and coverage. Assumes nothing.
-use Rattle.std.proofs.Common.{◌≡◌, ℕ, zero, suc, ◌+◌, ◌-◌, ◌<◌, ◌≤◌, Bool, true, false, cond, T, eqb, ◌⊎◌, List, [], ◌∷◌, length, ℤ, sym, refl, ap, ◌∙◌, subst, inl, inr, ⊎_elim, arith}
+use Rattle.std.proofs.Common.{◌≡◌, ℕ, suc, ◌-◌, ◌<◌, cond, T, eqb, List, ◌∷◌, length, ℤ, sym, refl, ap, ◌∙◌, subst, inl, inr, arith}
 use native.Mathlib.Decide.{dec_lt}
 use Rattle.std.proofs.lemmas.Bool.{eq-eqb, ne_eqb}
-use Rattle.design.specs.Sums.{sum_to, only, Inverse}
+use Rattle.design.specs.Sums.{only}
 use Rattle.design.specs.Designs.{In, Factors, Meets, Design, Depends, sum_at}
 use Rattle.design.specs.Claims.{Exchange, Coverage}
 use Rattle.design.proofs.Sums.{by_eq, only_iff, sum_same, sum_moved}

@@ -1,10 +1,10 @@
 -- The laws of finite sums. Assumes nothing.
-use Rattle.std.proofs.Common.{◌≡◌, ℕ, zero, suc, ◌+◌, ◌*◌, ◌<◌, ◌≤◌, Bool, true, false, cond, eqb, ◌⊎◌, ℤ, pos, negsuc, ◌+ℤ◌, ◌-ℤ◌, ◌*ℤ◌, neg_ℤ, sym, refl, ap, ◌∙◌, inl, inr, ⊎_elim, not-suc-le-zero, arith}
+use Rattle.std.proofs.Common.{◌≡◌, ℕ, zero, suc, ◌*◌, ◌<◌, ◌≤◌, cond, eqb, ℤ, pos, ◌+ℤ◌, ◌-ℤ◌, ◌*ℤ◌, neg_ℤ, sym, refl, ap, ◌∙◌, arith}
 use native.Mathlib.Decide.{ℕ_discrete}
 use borrow.Author.Differences.{ints, up, down, sum_is_lem, neg_is}
 use Rattle.std.proofs.lemmas.Bool.{eq-eqb, ne_eqb}
 use Rattle.design.specs.Sums.{sum_to, only, Inverse}
-use Rattle.design.specs.Claims.{Sum-laws}
+use Rattle.design.specs.Claims.{SumLaws}
 
 -- 0 where c is a, and x elsewhere
 abbrev pub except : ℕ → ℕ → ℤ → ℤ
@@ -99,7 +99,7 @@ sum_moved n σ τ inv g =
         (λ i q. only_iff k (σ i) i (τ k) (g k) (λ e. let l = inv.left i q in cc) (λ e. let r = inv.right k p in cc))
         ∙ sum_single n (τ k) (λ _. g k) (inv.back k p)
 
-pub sum_laws : Sum-laws
+pub sum_laws : SumLaws
 sum_laws = record { add = sum_add; scale = sum_scale; same = sum_same; swap = sum_swap; single = sum_single; moved = sum_moved }
 
 -- the term at k, and the others

@@ -1,15 +1,15 @@
 -- What holds of every orthogonal array, whatever it was made by.
---   Sum-laws  finite sums of integers
+--   SumLaws  finite sums of integers
 --   Exchange  what does not depend on factor f has the same sum at any two levels of f
 --   Fibre     each level of a factor is on N/s labels
 --   Effect    grades that are a base plus a share per factor's level show the shares' difference, N/s times
 --   Coverage  each combination of levels of t factors is on a graded label exactly where all labels are graded
 -- Assumes nothing.
-use Rattle.std.specs.Prelude.{◌≡◌, ℕ, ◌/◌, ◌<◌, ◌≤◌, Bool, T, ◌↔◌, List, [], ◌∷◌, length, ℤ, pos, ◌+ℤ◌, ◌-ℤ◌, ◌*ℤ◌}
+use Rattle.std.specs.Prelude.{◌≡◌, ℕ, ◌/◌, ◌<◌, ◌≤◌, Bool, T, ◌↔◌, List, ◌∷◌, length, ℤ, pos, ◌+ℤ◌, ◌-ℤ◌, ◌*ℤ◌}
 use Rattle.design.specs.Sums.{sum_to, only, Inverse}
 use Rattle.design.specs.Designs.{In, Factors, Meets, Design, Depends, sum_at}
 
-pub record Sum-laws : Type 0 where
+pub record SumLaws : Type 0 where
   pub add : (n : ℕ) (g h : ℕ → ℤ) → sum_to n (λ i. g i +ℤ h i) ≡ sum_to n g +ℤ sum_to n h
   pub scale : (n : ℕ) (c : ℤ) (g : ℕ → ℤ) → sum_to n (λ i. c *ℤ g i) ≡ c *ℤ sum_to n g
   pub same : (n : ℕ) (g h : ℕ → ℤ) → ((i : ℕ) → i < n → g i ≡ h i) → sum_to n g ≡ sum_to n h

@@ -14,5 +14,5 @@ eight i (suc (suc zero)) = i % 2
 eight i (suc (suc (suc j))) = (i / 4 + i / 2 % 2 + i % 2) % 2
 
 -- there are designs of strength 2 and 3
-abbrev pub Designs-exist : Type 0
-Designs-exist = Design 4 2 3 2 four × Design 8 2 4 3 eight
+abbrev pub DesignsExist : Type 0
+DesignsExist = Design 4 2 3 2 four × Design 8 2 4 3 eight

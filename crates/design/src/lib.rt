@@ -1,11 +1,11 @@
 // The theorems of orthogonal arrays, each asked for by a contract.
 #![tactic(auto)]
 
-ghost use Rattle.design.specs.Claims.{Sum-laws, Exchange, Fibre, Effect, Coverage};
-ghost use Rattle.design.specs.Models.{Designs-exist};
+ghost use Rattle.design.specs.Claims.{SumLaws, Exchange, Fibre, Effect, Coverage};
+ghost use Rattle.design.specs.Models.{DesignsExist};
 
 pub fn sums_stand() -> u8
-    ensures { Sum-laws }
+    ensures { SumLaws }
 {
     0
 }
@@ -36,7 +36,7 @@ pub fn effect_stands() -> u8
 
 // That there are designs, so that the theorems speak of something.
 pub fn designs_exist() -> u8
-    ensures { Designs-exist }
+    ensures { DesignsExist }
 {
     0
 }

@@ -1,5 +1,5 @@
 -- Lines that follow each other make the whole listing, and no row of an opened listing is refused. Assumes nothing.
-use Rattle.std.proofs.Common.{◌≡◌, ℕ, suc, ◌+◌, ◌<◌, ◌≤◌, Bool, true, false, cond, List, [], ◌++◌, IsErrAnd, Some, None, Ok, Err, Option, Result, sym, refl, ap, ◌∙◌, subst, ap₂, inl, inr, ⊎_elim, append_assoc, add-one, arith, MatchResult}
+use Rattle.std.proofs.Common.{◌≡◌, ℕ, suc, ◌+◌, ◌<◌, ◌≤◌, List, [], ◌++◌, IsErrAnd, Some, None, Ok, Err, Option, Result, sym, refl, ap, ◌∙◌, subst, ap₂, inl, inr, ⊎_elim, append_assoc, add-one, arith, MatchResult}
 use Rattle.std.proofs.lemmas.Bool.Decides.{nat_tests}
 use Rattle.std.proofs.lemmas.Bool.{cases_Bool}
 use Rattle.refusal.specs.declared.Slip.{Slip}
@@ -8,7 +8,6 @@ use Rattle.levels.specs.Rings.{Arithmetic}
 use Rattle.levels.specs.Counts.{binary_serves}
 use Rattle.levels.specs.Choice.{meaning, arithmetic_for}
 use Rattle.shuffle.specs.Ways.{Ways}
-use Rattle.shuffle.specs.Choice.{ways_of}
 use Rattle.plan.specs.declared.shape.Plan.{Plan}
 use Rattle.strip.specs.Rows.{rows_rows}
 use Rattle.listing_text.specs.declared.request.Request.{Request}
@@ -19,7 +18,7 @@ use Rattle.listing_text.specs.Texts.{header_text, refused_text}
 use Rattle.listing.specs.declared.fault.ListingFault.{ListingFault}
 use Rattle.listing.specs.Faults.{listing_slip}
 use Rattle.listing.specs.Lines.{rows_text}
-use Rattle.listing.specs.Listings.{Parsed, listing_rows, whole_of, RowPushed, line_of, Listed, Prints}
+use Rattle.listing.specs.Listings.{Parsed, listing_rows, whole_of, RowPushed, Listed, Prints}
 
 pub row_accepted : (P : Plan) (R : Arithmetic) (i : ℕ) → R.count ≡ P.levels → i < P.labels → refusal (rows_rows P R i 1 0 16) ≡ None
 row_accepted P R i e h = let few : P.factors ≤ 16 = omega (arith, P.named, P.few) in grind (arith, nat_tests)

@@ -1,10 +1,10 @@
 -- The first row that holds is the one of the smallest number, where the numbers rise. Assumes nothing.
-use Rattle.std.proofs.Common.{◌≡◌, ℕ, ◌<◌, Bool, true, false, cond, ◌⊎◌, List, [], ◌∷◌, Some, None, Option, sym, refl, ap, ◌∙◌, subst, inl, inr, ⊎_elim, arith}
+use Rattle.std.proofs.Common.{◌≡◌, ℕ, ◌<◌, Bool, true, false, List, [], ◌∷◌, Some, None, sym, refl, ap, subst, inl, inr, ⊎_elim, arith}
 use Rattle.std.specs.List.{AllByRecursion as All}
 use Rattle.std.proofs.lemmas.Bool.{cases_Bool}
 use Rattle.refusal.specs.declared.Slip.{Slip}
 use Rattle.refusal.specs.Table.{Row, refusal}
-use Rattle.refusal.specs.Laws.{Rising, Holds, Given, FirstRow, NoRow}
+use Rattle.refusal.specs.Laws.{Rising, Holds, Given}
 
 clash : {x : Slip} → Some x ≡ None → ⊥
 clash e = let z : ◌≡◌ {A = ℕ} 0 1 = cc in omega arith

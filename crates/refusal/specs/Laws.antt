@@ -3,7 +3,7 @@
 --   Holds   some row gives this slip and holds
 --   Given   that, and no row of a smaller number holds
 -- Assumes nothing.
-use Rattle.std.specs.Prelude.{◌≡◌, ℕ, ◌<◌, true, false, ◌⊎◌, List, [], ◌∷◌, Some, None}
+use Rattle.std.specs.Prelude.{◌≡◌, ◌<◌, true, false, ◌⊎◌, List, [], ◌∷◌, Some, None}
 use Rattle.std.specs.List.{AllByRecursion as All}
 use Rattle.refusal.specs.declared.Slip.{Slip}
 use Rattle.refusal.specs.Table.{Row, refusal}

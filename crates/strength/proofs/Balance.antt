@@ -1,5 +1,5 @@
 -- What the counts by combination say of the occurrences of tuples. Assumes nothing.
-use Rattle.std.proofs.Common.{◌≡◌, ℕ, ◌+◌, ◌*◌, ◌^◌, ◌<◌, ◌≤◌, true, not, eqb, List, length, get_or, take, sum_by, sym, ap, ◌∙◌, subst, mul_comm, arith, length-take}
+use Rattle.std.proofs.Common.{◌≡◌, ℕ, ◌+◌, ◌*◌, ◌^◌, ◌<◌, ◌≤◌, true, eqb, List, length, get_or, take, sum_by, sym, ap, ◌∙◌, subst, mul_comm, arith, length-take}
 use native.Mathlib.Nat.{pow-le-pow_right}
 use lib.ListN.{length-map}
 use Rattle.std.specs.List.{AllByRecursion as All}

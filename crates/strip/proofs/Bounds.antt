@@ -1,11 +1,11 @@
 -- Values are codes, levels are below the count, and fine settings below the number of labels. Assumes nothing.
-use Rattle.std.proofs.Common.{◌≡◌, ℕ, zero, suc, ◌+◌, ◌*◌, ◌/◌, ◌%◌, ◌^◌, ◌<◌, ◌≤◌, sym, refl, ap, ◌∙◌, subst, mod-lt, mul_comm, div-lt_iff_lt-mul, pow-suc, zero-mul, mul-div_cancel, arith, pow_pos}
+use Rattle.std.proofs.Common.{◌≡◌, ℕ, zero, suc, ◌+◌, ◌*◌, ◌/◌, ◌^◌, ◌<◌, ◌≤◌, sym, ap, ◌∙◌, subst, mod-lt, mul_comm, div-lt_iff_lt-mul, pow-suc, zero-mul, mul-div_cancel, arith, pow_pos}
 use native.Mathlib.Nat.{one-le-pow}
 use lib.Arith.{digits_lt}
 use Rattle.levels.specs.Rings.{Arithmetic, RingLaws}
 use Rattle.shuffle.specs.Ways.{Ways, ShuffleLaws}
 use Rattle.plan.specs.declared.shape.Plan.{Plan}
-use Rattle.strip.specs.Labels.{key, value_at, level_at, sublevel_at, fine_at}
+use Rattle.strip.specs.Labels.{key, value_at, level_at, sublevel_at}
 
 pub key_fits : (constant seed j : ℕ) → key constant seed j < 2 ^ 32
 key_fits constant seed j = mod-lt _ (pow_pos 32)

@@ -1,5 +1,5 @@
 -- Wishes that no row of the table refuses are t different factors with a level each, and the other way round. Assumes nothing.
-use Rattle.std.proofs.Common.{◌≡◌, ℕ, zero, suc, ◌<◌, ◌≤◌, Bool, true, false, not, eqb, ltb, leb, ◌≢◌, List, [], ◌∷◌, length, get_or, None, sym, ap, ◌∙◌, arith}
+use Rattle.std.proofs.Common.{◌≡◌, ℕ, zero, suc, ◌<◌, Bool, false, not, eqb, ltb, leb, ◌≢◌, List, [], ◌∷◌, length, get_or, None, sym, ap, arith}
 use Rattle.std.specs.List.{AllByRecursion as All}
 use Rattle.std.proofs.lemmas.Bool.{leb-false, ltb-false, eqb-false, lt-leb, le-ltb, eq-eqb, ne_eqb}
 use Rattle.refusal.specs.Table.{first, refusal}

@@ -1,5 +1,5 @@
 -- Any t different factors with a level each name exactly one label: the one whose digits are interpolated. Assumes nothing.
-use Rattle.std.proofs.Common.{◌≡◌, ℕ, zero, suc, ◌+◌, ◌*◌, ◌^◌, ◌<◌, ◌≤◌, ◌≢◌, List, [], ◌∷◌, map, length, sym, refl, ap, ◌∙◌, subst, ap₂, arith}
+use Rattle.std.proofs.Common.{◌≡◌, ℕ, ◌^◌, ◌<◌, ◌≢◌, List, [], ◌∷◌, map, length, sym, refl, ap, ◌∙◌, subst, ap₂, arith}
 use mathlib.Core.List.{head-eq_of_cons-eq, tail-eq_of_cons-eq}
 use lib.ListN.{length-map}
 use Rattle.std.specs.List.{AllByRecursion as All}
@@ -16,8 +16,8 @@ use Rattle.algebra.specs.Theorems.{Takes}
 use Rattle.algebra.proofs.Unique.{interpolates}
 use Rattle.algebra.proofs.Base.{length_digits, codes_digits, number_digits, number_below, digits_number}
 use Rattle.strip.specs.declared.wish.Wish.{Wish}
-use Rattle.strip.specs.Labels.{index, point, level_key, value_at, level_at}
-use Rattle.strip.specs.Names.{Apart, Chosen, Meets, Named, Names}
+use Rattle.strip.specs.Labels.{index, point, level_key, level_at}
+use Rattle.strip.specs.Names.{Apart, Chosen, Named, Names}
 use Rattle.strip.specs.Wishes.{points_of, values_of}
 use Rattle.strip.proofs.Bounds.{key_fits}
 use Rattle.strip.proofs.Values.{value_eval}

@@ -1,14 +1,14 @@
 -- A factor and a fine setting name exactly one label, in any ring. Assumes nothing.
-use Rattle.std.proofs.Common.{◌≡◌, ℕ, zero, suc, ◌+◌, ◌-◌, ◌*◌, ◌/◌, ◌%◌, ◌^◌, ◌<◌, ◌≤◌, sym, refl, ap, ◌∙◌, subst, ap₂, mod-lt, mul_comm, div-lt_iff_lt-mul, div-add-mod', arith}
+use Rattle.std.proofs.Common.{◌≡◌, ℕ, zero, suc, ◌+◌, ◌-◌, ◌*◌, ◌/◌, ◌%◌, ◌<◌, sym, ap, ◌∙◌, subst, ap₂, mod-lt, mul_comm, div-lt_iff_lt-mul, div-add-mod', arith}
 use lib.Arith.{digits_lt, digits_div, digits_mod}
 use Rattle.levels.specs.Rings.{Arithmetic, RingLaws}
 use Rattle.levels.specs.Ring.{sub_intro}
 use Rattle.shuffle.specs.Ways.{Ways, ShuffleLaws}
-use Rattle.shuffle.proofs.Laws.{back_of_out, out_injective}
+use Rattle.shuffle.proofs.Laws.{back_of_out}
 use Rattle.plan.specs.declared.shape.Plan.{Plan}
-use Rattle.strip.specs.Labels.{index, point, key, level_key, fine_key, value_at, level_at, sublevel_at, fine_at}
+use Rattle.strip.specs.Labels.{index, point, level_key, fine_key, value_at, level_at, sublevel_at, fine_at}
 use Rattle.strip.specs.Names.{Located, NamesFine}
-use Rattle.strip.proofs.Bounds.{key_fits, labels_split, value_code, level_below, sublevel_below}
+use Rattle.strip.proofs.Bounds.{key_fits, labels_split, sublevel_below}
 use Rattle.strip.proofs.Values.{value_step}
 
 -- the place before shuffling of a label with fine setting f for factor j

@@ -1,8 +1,8 @@
 -- The value of a label's polynomial: one digit off, it is the value of the rest times the point; so it is Horner's rule. Assumes nothing.
-use Rattle.std.proofs.Common.{◌≡◌, ℕ, zero, suc, ◌+◌, ◌*◌, ◌/◌, ◌%◌, ◌^◌, ◌<◌, ◌≤◌, List, [], ◌∷◌, sym, refl, ap, ◌∙◌, subst, ap₂, mod-lt, div-one, arith}
+use Rattle.std.proofs.Common.{◌≡◌, ℕ, zero, suc, ◌/◌, ◌%◌, ◌^◌, ◌<◌, sym, refl, ap, ◌∙◌, subst, ap₂, mod-lt, div-one}
 use native.Mathlib.Nat.{pow-zero, pow-succ', div-div-eq-div-mul}
 use Rattle.levels.specs.Rings.{Arithmetic, RingLaws}
-use Rattle.levels.specs.Ring.{zero_code, zero-add, mul-zero, mul_left_comm}
+use Rattle.levels.specs.Ring.{zero_code, mul-zero, mul_left_comm}
 use Rattle.algebra.specs.Polynomials.{eval}
 use Rattle.algebra.specs.Digits.{digits}
 use Rattle.strip.specs.Labels.{digit, power, total, value_at}

@@ -1,5 +1,5 @@
 -- One label for any t different factors with a level each makes the strip's table an orthogonal array of index 1. Assumes nothing.
-use Rattle.std.proofs.Common.{◌≡◌, ℕ, zero, suc, ◌+◌, ◌*◌, ◌/◌, ◌%◌, ◌<◌, ◌≤◌, ◌≢◌, List, [], ◌∷◌, map, length, get_or, take, sym, refl, ap, ◌∙◌, subst, ap₂, mod-lt, mul_comm, div-lt_iff_lt-mul, div-add-mod', zero-add, arith, length-take-le, get_or-take}
+use Rattle.std.proofs.Common.{◌≡◌, ℕ, suc, ◌+◌, ◌*◌, ◌/◌, ◌%◌, ◌<◌, ◌≤◌, ◌≢◌, List, [], ◌∷◌, map, length, get_or, take, sym, refl, ap, ◌∙◌, subst, ap₂, mod-lt, mul_comm, div-lt_iff_lt-mul, div-add-mod', zero-add, arith, length-take-le, get_or-take}
 use lib.ListN.{length-map}
 use Rattle.std.specs.List.{AllByRecursion as All}
 use Rattle.std.proofs.lemmas.Nat.{mul-add-lt}
@@ -11,7 +11,7 @@ use Rattle.plan.specs.declared.shape.Plan.{Plan}
 use Rattle.strip.specs.declared.cell.Cell.{Cell}
 use Rattle.strip.specs.declared.wish.Wish.{Wish}
 use Rattle.strip.specs.Labels.{index, level, cell_at}
-use Rattle.strip.specs.Names.{Apart, Chosen, Meets, Named, Exact}
+use Rattle.strip.specs.Names.{Apart, Chosen, Meets, Exact}
 use Rattle.strip.specs.Rows.{blank, Written}
 use Rattle.strip.proofs.Bounds.{level_below}
 use Rattle.strength.specs.Arrays.{at, shown, occurrences, Different, Columns, Tuple, OrthogonalArray}

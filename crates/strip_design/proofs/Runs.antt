@@ -1,5 +1,5 @@
 -- Exactly one label for any t different factors with a level each makes the strip a design. Assumes nothing.
-use Rattle.std.proofs.Common.{◌≡◌, ℕ, zero, suc, ◌<◌, ◌≤◌, ◌≢◌, ◌⊎◌, List, [], ◌∷◌, map, length, None, sym, refl, ap, ◌∙◌, subst, inl, inr, ⊎_elim, arith}
+use Rattle.std.proofs.Common.{◌≡◌, ℕ, ◌<◌, ◌≢◌, List, [], ◌∷◌, map, length, None, sym, refl, ◌∙◌, subst, inl, inr, ⊎_elim, arith}
 use lib.ListN.{length-map}
 use Rattle.std.specs.List.{AllByRecursion as All}
 use Rattle.std.proofs.lemmas.Bool.Decides.{nat_tests}
@@ -10,9 +10,9 @@ use Rattle.shuffle.specs.Ways.{Ways, ShuffleLaws}
 use Rattle.plan.specs.declared.shape.Plan.{Plan}
 use Rattle.strip.specs.declared.wish.Wish.{Wish}
 use Rattle.strip.specs.Labels.{index, level}
-use Rattle.strip.specs.Names.{Apart, Chosen, Meets as HasAll, Named, Exact}
+use Rattle.strip.specs.Names.{Apart, Chosen, Meets as HasAll, Exact}
 use Rattle.strip.proofs.Bounds.{level_below}
-use Rattle.design.specs.Designs.{In, Distinct, Factors, Meets, Design}
+use Rattle.design.specs.Designs.{In, Distinct, Factors, Meets}
 use Rattle.strip_design.specs.Strips.{StripDesign}
 
 -- a strip that is not refused has an arithmetic of the plan's count

@@ -1,5 +1,5 @@
 -- Strip done, and the combinations that are on graded labels. Assumes nothing.
-use Rattle.std.proofs.Common.{◌≡◌, ℕ, ◌<◌, Bool, true, false, T, ◌↔◌, List, [], ◌∷◌, length, get_or, take, sym, refl, ap, ◌∙◌, subst, arith}
+use Rattle.std.proofs.Common.{◌≡◌, ℕ, ◌<◌, Bool, true, false, T, ◌↔◌, List, length, get_or, take, sym, refl, subst}
 use Rattle.levels.specs.Rings.{Arithmetic}
 use Rattle.shuffle.specs.Ways.{Ways}
 use Rattle.plan.specs.declared.shape.Plan.{Plan}
@@ -8,18 +8,16 @@ use Rattle.strip.proofs.Bounds.{some_labels}
 use Rattle.book.specs.declared.calls.Call.{Call}
 use Rattle.book.specs.declared.calls.Call.TheVariants.{Take}
 use Rattle.book.specs.declared.calls.Answer.{Answer}
-use Rattle.book.specs.declared.calls.Answer.TheVariants.{Refused}
-use Rattle.book.specs.Faults.{slip_of}
 use Rattle.book.specs.Plain.{Label, waiting, out, graded, Plain, opened, Step}
 use Rattle.book.specs.Rows.{Row}
 use Rattle.book.specs.Laws.{Sized}
 use Rattle.book.proofs.Steps.{sized_opened}
 use Rattle.book.proofs.Chains.{row_kept, turn_at}
 use Rattle.book.proofs.Grades.{AllGraded, done_only, done_always}
-use Rattle.design.specs.Designs.{In, Factors, Meets}
+use Rattle.design.specs.Designs.{Factors}
 use Rattle.design.proofs.Exchanges.{coverage}
 use Rattle.strip_design.specs.Strips.{StripDesign}
-use Rattle.trial.specs.Trials.{Graded, Covered, DoneAt}
+use Rattle.trial.specs.Trials.{Covered, DoneAt}
 
 -- a label has a grade, as a test
 abbrev has_grade : Label → Bool

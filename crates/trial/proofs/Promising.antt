@@ -1,5 +1,5 @@
 -- The parts of the whole promise, out of the replies and the row. Assumes nothing.
-use Rattle.std.proofs.Common.{◌≡◌, ℕ, ◌/◌, ◌<◌, ◌≤◌, Bool, true, false, List, [], ◌∷◌, map, length, get_or, ℤ, pos, ◌-ℤ◌, ◌*ℤ◌, Some, None, Ok, Err, vec_items, Result, sym, refl, ap, ◌∙◌, subst, arith}
+use Rattle.std.proofs.Common.{◌≡◌, ℕ, ◌/◌, ◌<◌, ◌≤◌, Bool, true, List, [], ◌∷◌, map, length, get_or, ℤ, pos, ◌-ℤ◌, ◌*ℤ◌, None, Ok, Err, Result, sym, refl, ap, ◌∙◌, subst}
 use Rattle.std.proofs.lemmas.Bool.{both_ways}
 use Rattle.refusal.specs.declared.Slip.{Slip}
 use Rattle.refusal.specs.Table.{Row as TableRow, refusal, Answers}
@@ -14,7 +14,6 @@ use Rattle.strip.specs.Wishes.{find_rows, locate_rows}
 use Rattle.strip.proofs.Choosing.{chosen_clear, located_clear}
 use Rattle.book.specs.declared.calls.Call.{Call}
 use Rattle.book.specs.declared.calls.Answer.{Answer}
-use Rattle.book.specs.Conditions.{finishing}
 use Rattle.book.specs.Plain.{Plain, opened, stand}
 use Rattle.book.specs.Rows.{Row, finishes}
 use Rattle.book.proofs.Lines.{given_none}

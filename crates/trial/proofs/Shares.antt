@@ -1,6 +1,5 @@
 -- When an effect is answered, and what it is where grades are additive. Assumes nothing.
-use Rattle.std.proofs.Common.{◌≡◌, ℕ, ◌<◌, ◌≤◌, leb, List, [], ◌∷◌, length, ℤ, pos, ◌-ℤ◌, None, sym, refl, ap, ◌∙◌, ap₂, arith}
-use Rattle.std.proofs.lemmas.Bool.Decides.{nat_tests}
+use Rattle.std.proofs.Common.{◌≡◌, ℕ, ◌<◌, leb, List, [], ◌∷◌, length, ℤ, None, ◌∙◌}
 use Rattle.std.proofs.lemmas.Bool.{lt-leb, or_from}
 use Rattle.refusal.specs.Table.{refusal}
 use Rattle.refusal.proofs.Firsts.{none_only, none_always}

@@ -8,7 +8,7 @@
 --   trial_rows the refusal table's rows when a trial is begun
 --   TrialEnds how the call ends: conducted, or refused with the words as they were
 -- Assumes nothing.
-use Rattle.std.specs.Prelude.{◌≡◌, ℕ, ◌/◌, ◌<◌, ◌≤◌, true, ◌↔◌, List, [], ◌∷◌, length, take, ℤ, pos, ◌-ℤ◌, ◌*ℤ◌, Some, None, Ok, Err, vec_items, Result, slice_index_or}
+use Rattle.std.specs.Prelude.{◌≡◌, ℕ, ◌/◌, ◌<◌, ◌≤◌, true, ◌↔◌, List, ◌∷◌, length, take, ℤ, pos, ◌-ℤ◌, ◌*ℤ◌, Some, None, Ok, Err, vec_items, Result, slice_index_or}
 use Rattle.refusal.specs.Table.{Row as TableRow, refusal}
 use Rattle.levels.specs.Rings.{Arithmetic}
 use Rattle.shuffle.specs.Ways.{Ways}

@@ -1,4 +1,4 @@
-use Rattle.std.proofs.Common.{◌≡◌, List, [], ◌∷◌, Ok, Err, Result}
+use Rattle.std.proofs.Common.{[], ◌∷◌, Ok, Err, Result}
 use Rattle.refusal.specs.Table.{Answers}
 use Rattle.levels.specs.Rings.{Arithmetic, RingLaws}
 use Rattle.shuffle.specs.Ways.{Ways, ShuffleLaws}

@@ -1,4 +1,4 @@
-use Rattle.std.proofs.Common.{◌≡◌, length, is_some, sym, refl, ap, ◌∙◌}
+use Rattle.std.proofs.Common.{length, is_some, sym, ap, ◌∙◌}
 use Rattle.book.specs.Standings.{standings, is_torn, unready}
 use Rattle.book.proofs.Upward.{lowest_word}
 use Rattle.book.proofs.Lines.{fitting, finish_open, finish_torn, finish_clear}

@@ -1,4 +1,3 @@
-use Rattle.std.proofs.Common.{refl}
 use Rattle.book.specs.declared.deed.Deed.TheVariants as deed
 use Rattle.book.proofs.Acting.{take_acts, deed_acts, finish_acts, refused_acts}
 use Rattle.book.proofs.row.act.Goals as goal

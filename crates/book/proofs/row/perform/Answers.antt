@@ -1,4 +1,4 @@
-use Rattle.std.proofs.Common.{◌≡◌, ℕ, ◌-◌, cond, leb, length, ap, ◌∙◌}
+use Rattle.std.proofs.Common.{◌≡◌, ◌-◌, cond, leb, length, ap, ◌∙◌}
 use native.Mathlib.Nat.{sub-zero}
 use Rattle.book.proofs.Handing.{handed_turn}
 use Rattle.book.proofs.row.perform.Goals as goal

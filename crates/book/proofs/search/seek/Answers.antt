@@ -1,7 +1,7 @@
-use Rattle.std.proofs.Common.{◌≡◌, ℕ, ◌-◌, ◌<◌, ◌≤◌, List, length, IfSome, Some, None, Option, sym, refl, ap, ◌∙◌, subst, arith}
+use Rattle.std.proofs.Common.{ℕ, ◌<◌, ◌≤◌, length, IfSome, Some, None, Option, sym, ap, ◌∙◌, arith}
 use native.Mathlib.Nat.{sub-zero}
 use Rattle.book.specs.Standings.{standings, stops}
-use Rattle.book.specs.Search.{first, stop}
+use Rattle.book.specs.Search.{first}
 use Rattle.book.proofs.Upward.{stop_word}
 use Rattle.book.proofs.search.seek.Goals as goal
 

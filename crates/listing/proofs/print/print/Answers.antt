@@ -1,4 +1,4 @@
-use Rattle.std.proofs.Common.{◌≡◌, ℕ, List, string_bytes, refl, ap, ◌∙◌}
+use Rattle.std.proofs.Common.{string_bytes, refl, ap, ◌∙◌}
 use Rattle.listing_text.specs.Texts.{refused_text}
 use Rattle.listing.specs.Listings.{whole_of}
 use Rattle.listing.proofs.Wholes.{opened_count, from_empty, accepted, turned}

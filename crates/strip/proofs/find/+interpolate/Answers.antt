@@ -1,4 +1,4 @@
-use Rattle.std.proofs.Common.{◌≡◌, ℕ, ◌-◌, List, [], ◌∷◌, length, sym, refl, arith}
+use Rattle.std.proofs.Common.{◌≡◌, ℕ, ◌-◌, List, [], ◌∷◌, length, refl, arith}
 use Rattle.levels.specs.Rings.{Arithmetic}
 use Rattle.algebra.specs.Interpolation.{interp}
 use Rattle.strip.specs.declared.wish.Wish.{Wish}

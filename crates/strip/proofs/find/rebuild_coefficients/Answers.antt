@@ -1,4 +1,4 @@
-use Rattle.std.proofs.Common.{◌≡◌, ℕ, suc, ◌+◌, ◌<◌, List, ◌∷◌, length, get_or, sym, ap, ◌∙◌, subst, add-one, arith}
+use Rattle.std.proofs.Common.{◌≡◌, suc, length, get_or, ap, subst, add-one, arith}
 use Rattle.strip.proofs.InPlace.{rebuild_placed}
 use Rattle.strip.proofs.find.rebuild_coefficients.Goals as goal
 

@@ -1,4 +1,4 @@
-use Rattle.std.proofs.Common.{◌≡◌, ℕ, ◌<◌, sym, subst}
+use Rattle.std.proofs.Common.{◌≡◌, ◌<◌, sym, subst}
 use Rattle.strip.specs.Labels.{level_at}
 use Rattle.strip.proofs.Bounds.{level_below}
 use Rattle.strip.proofs.label.level_at.Goals as goal

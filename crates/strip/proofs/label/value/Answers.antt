@@ -1,4 +1,4 @@
-use Rattle.std.proofs.Common.{◌≡◌, ℕ, suc, ◌+◌, ◌*◌, ◌/◌, ◌%◌, ◌^◌, sym, refl, ap, ◌∙◌, ap₂, pow-suc, div-one, add-one}
+use Rattle.std.proofs.Common.{◌≡◌, ℕ, ◌+◌, ◌/◌, ◌^◌, sym, refl, ap, ◌∙◌, pow-suc, div-one, add-one}
 use native.Mathlib.Nat.{pow-zero, div-div-eq-div-mul}
 use Rattle.levels.specs.Rings.{Arithmetic}
 use Rattle.strip.specs.Labels.{digit, power, value_at}

@@ -1,7 +1,7 @@
-use Rattle.std.proofs.Common.{◌≡◌, ℕ, ◌+◌, ◌*◌, ◌≤◌, List, [], ◌∷◌, length, None, Ok, Err, Result, zero-add, arith}
+use Rattle.std.proofs.Common.{◌≡◌, ◌+◌, ◌*◌, ◌≤◌, List, length, Ok, Err, Result, zero-add, arith}
 use Rattle.std.proofs.lemmas.Bool.{ltb-false}
 use Rattle.std.proofs.lemmas.Bool.Decides.{nat_tests}
-use Rattle.refusal.specs.Table.{refusal, Answers}
+use Rattle.refusal.specs.Table.{Answers}
 use Rattle.refusal.proofs.Firsts.{none_only}
 use Rattle.levels.specs.Rings.{Arithmetic, RingLaws}
 use Rattle.shuffle.specs.Ways.{Ways, ShuffleLaws}

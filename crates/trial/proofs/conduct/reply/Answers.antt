@@ -1,4 +1,4 @@
-use Rattle.std.proofs.Common.{◌≡◌, ◌-◌, length, take, sym, ◌∙◌, subst}
+use Rattle.std.proofs.Common.{◌-◌, length, take, sym, ◌∙◌, subst}
 use native.Mathlib.Nat.{sub-zero}
 use Rattle.book.specs.Standings.{standings}
 use Rattle.book.specs.Shown.{Leaves}

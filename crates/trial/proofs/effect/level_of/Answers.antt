@@ -1,4 +1,4 @@
-use Rattle.std.proofs.Common.{◌≡◌, ℕ, ◌+◌, ◌*◌, get_or, sym, refl, ap, ◌∙◌, subst, add-zero, zero-mul, arith}
+use Rattle.std.proofs.Common.{◌≡◌, ℕ, ◌+◌, ◌*◌, get_or, ap, subst, add-zero, zero-mul, arith}
 use Rattle.strip.specs.declared.cell.Cell.{Cell}
 use Rattle.strip.specs.Labels.{index, cell_at}
 use Rattle.strip.specs.Rows.{blank}

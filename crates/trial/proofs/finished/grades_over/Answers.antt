@@ -1,6 +1,6 @@
-use Rattle.std.proofs.Common.{◌≡◌, ℕ, suc, ◌+◌, ◌-◌, ◌*◌, ◌≤◌, get_or, ℤ, pos, ◌+ℤ◌, sym, refl, ap, ◌∙◌, subst, add-mul, one-mul, add-one, arith}
+use Rattle.std.proofs.Common.{◌≡◌, ℕ, ◌+◌, ◌*◌, ℤ, pos, ◌+ℤ◌, sym, ap, ◌∙◌, subst, add-mul, add-one, arith}
 use borrow.Author.Differences.{ints}
-use Rattle.design.specs.Sums.{sum_to, only}
+use Rattle.design.specs.Sums.{only}
 use Rattle.design.specs.Designs.{sum_at}
 use Rattle.design.proofs.Sums.{only_same, only_other}
 use Rattle.strip.specs.Labels.{level}

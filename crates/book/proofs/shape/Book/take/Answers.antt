@@ -1,7 +1,6 @@
-use Rattle.std.proofs.Common.{◌≡◌, ℕ, ◌<◌, ◌≤◌, Bool, true, false, cond, [], length, is_some, Some, None, sym, refl, ap, ◌∙◌, arith, rules}
+use Rattle.std.proofs.Common.{length, is_some, sym, refl, ap, ◌∙◌, rules}
 use Rattle.std.proofs.lemmas.Bool.{cond-true, cond-false}
-use Rattle.book.specs.Standings.{standing, standings, is_torn, is_out}
-use Rattle.book.specs.Faults.{slip_of}
+use Rattle.book.specs.Standings.{standings, is_torn, is_out}
 use Rattle.book.proofs.Upward.{stands_word, lowest_word, stop_some, stop_law}
 use Rattle.book.proofs.Lines.{fitting, inside, not_torn, take_out, take_done, take_found}
 use Rattle.book.proofs.shape.Book.take.Goals as goal

@@ -1,4 +1,4 @@
-use Rattle.std.proofs.Common.{◌≡◌, ℕ, List, ◌++◌, string_bytes, sym, refl, ap, ◌∙◌, append_assoc, arith}
+use Rattle.std.proofs.Common.{◌≡◌, ◌++◌, string_bytes, refl, ap, ◌∙◌, append_assoc, arith}
 use Rattle.levels.specs.Choice.{meaning}
 use Rattle.shuffle.specs.Choice.{ways_of}
 use Rattle.listing_text.specs.Texts.{header_text}

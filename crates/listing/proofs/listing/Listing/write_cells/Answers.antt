@@ -1,4 +1,4 @@
-use Rattle.std.proofs.Common.{◌≡◌, ℕ, length, Some, None, subst, arith}
+use Rattle.std.proofs.Common.{◌≡◌, Some, None, subst, arith}
 use Rattle.refusal.specs.Table.{refusal}
 use Rattle.levels.specs.Choice.{meaning}
 use Rattle.strip.specs.Faults.{strip_slip}

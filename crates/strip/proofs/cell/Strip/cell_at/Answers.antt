@@ -1,4 +1,4 @@
-use Rattle.std.proofs.Common.{◌≡◌, ℕ, ◌+◌, ◌*◌, ◌/◌, ◌<◌, ◌≤◌, arith}
+use Rattle.std.proofs.Common.{arith}
 use Rattle.strip.specs.Labels.{fine_at}
 use Rattle.strip.proofs.Bounds.{joined_below}
 use Rattle.strip.proofs.cell.Strip.cell_at.Goals as goal

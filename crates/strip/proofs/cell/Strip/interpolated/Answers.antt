@@ -1,8 +1,8 @@
-use Rattle.std.proofs.Common.{◌≡◌, ℕ, ◌<◌, ◌≤◌, List, sym, ap, ◌∙◌, subst, arith}
+use Rattle.std.proofs.Common.{◌≡◌, ◌<◌, sym, ap, ◌∙◌, subst, arith}
 use Rattle.algebra.specs.Interpolation.{interp}
 use Rattle.algebra.specs.Digits.{number}
 use Rattle.strip.specs.Names.{Named}
-use Rattle.strip.specs.Wishes.{factor_of, points_of, values_of}
+use Rattle.strip.specs.Wishes.{points_of}
 use Rattle.strip.proofs.Choosing.{placed_all}
 use Rattle.strip.proofs.Finding.{place_for, place_fits, named}
 use Rattle.strip.proofs.cell.Strip.interpolated.Goals as goal

@@ -1,4 +1,4 @@
-use Rattle.std.proofs.Common.{◌≡◌, ℕ, ◌/◌, ◌<◌, sym, subst}
+use Rattle.std.proofs.Common.{◌≡◌, ◌/◌, ◌<◌, sym, subst}
 use Rattle.strip.specs.Labels.{sublevel_at}
 use Rattle.strip.proofs.Bounds.{sublevel_below}
 use Rattle.strip.proofs.cell.Strip.sublevel_at.Goals as goal

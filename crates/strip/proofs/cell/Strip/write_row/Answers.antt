@@ -1,4 +1,4 @@
-use Rattle.std.proofs.Common.{◌≡◌, ℕ, ◌+◌, ◌<◌, get_or, sym, subst, arith}
+use Rattle.std.proofs.Common.{◌≡◌, ◌+◌, ◌<◌, get_or, sym, subst, arith}
 use Rattle.strip.specs.Labels.{index, cell_at}
 use Rattle.strip.specs.Rows.{blank}
 use Rattle.strip.proofs.Writing.{row_written}

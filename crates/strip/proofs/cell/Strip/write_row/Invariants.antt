@@ -1,4 +1,4 @@
-use Rattle.std.proofs.Common.{◌≡◌, ℕ, ◌+◌, ◌<◌, ◌≤◌, length, get_or}
+use Rattle.std.proofs.Common.{◌≡◌, ℕ, ◌+◌, ◌<◌, ◌≤◌, get_or}
 use Rattle.strip.specs.Labels.{cell_at}
 use Rattle.strip.specs.Rows.{blank}
 use Rattle.strip.proofs.cell.Strip.write_row.Given as goal

@@ -1,4 +1,4 @@
-use Rattle.std.proofs.Common.{◌≡◌, ℕ, ◌+◌, ◌*◌, ◌<◌, ◌≤◌, sym, refl, ap, ◌∙◌, subst, mul-le-mul_right, add-mul, one-mul, zero-add, zero-mul, arith}
+use Rattle.std.proofs.Common.{◌≡◌, ℕ, ◌+◌, ◌*◌, ◌≤◌, sym, ap, ◌∙◌, subst, mul-le-mul_right, add-mul, one-mul, zero-add, arith}
 use Rattle.strip.specs.Rows.{Written}
 use Rattle.strip.proofs.Writing.{rows_more}
 use Rattle.strip.proofs.cell.Strip.write_rows.Goals as goal

@@ -1,4 +1,4 @@
-use Rattle.std.proofs.Common.{◌≡◌, ℕ, ◌*◌}
+use Rattle.std.proofs.Common.{◌≡◌, ◌*◌}
 use Rattle.strip.specs.Rows.{Written}
 use Rattle.strip.proofs.cell.Strip.write_rows.Given as goal
 
