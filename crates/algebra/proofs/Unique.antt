@@ -1,7 +1,7 @@
 -- Interpolation at points whose differences have inverses: there is one list of coefficients, and no other. Assumes nothing.
 use Rattle.std.proofs.Common.{◌≡◌, ℕ, suc, ◌<◌, List, [], ◌∷◌, map, length, sym, refl, ap, ◌∙◌, ap₂, arith}
 use mathlib.Core.List.{head-eq_of_cons-eq, tail-eq_of_cons-eq}
-use Rattle.std.specs.List.{AllByRecursion as All}
+use Rattle.std.specs.List.{AllByRecursion}
 use Rattle.levels.specs.Rings.{Arithmetic, RingLaws}
 use Rattle.levels.specs.Ring.{mul_left_comm, cancel, mul_cancel}
 use Rattle.algebra.specs.Polynomials.{Codes, eval}
@@ -44,7 +44,7 @@ module _ {R : Arithmetic} (L : RingLaws R) (inv : ℕ → ℕ) where
       ap (R.sum v) (mul_left_comm L d (R.difference w v) (inv d) ∙ ap (R.product (R.difference w v)) e ∙ L.mul_one (R.difference w v) (L.sub_code w v))
       ∙ L.add_comm v (R.difference w v) ∙ L.sub_add w v h
 
-  lift : (x v : ℕ) (q ys ws : List ℕ) → v < R.count → Codes R q → Codes R ys → Codes R ws → All (Undone x) ys → length ys ≡ length ws
+  lift : (x v : ℕ) (q ys ws : List ℕ) → v < R.count → Codes R q → Codes R ys → Codes R ws → AllByRecursion (Undone x) ys → length ys ≡ length ws
       → map (eval R q) ys ≡ slopes R inv x v ys ws → map (eval R (rebuild R x v q)) ys ≡ ws
   lift x v q [] [] hv hq hy hw a h e = refl
   lift x v q [] (w ∷ ws) hv hq hy hw a h e = absurd (omega arith)
@@ -76,7 +76,7 @@ module _ {R : Arithmetic} (L : RingLaws R) (inv : ℕ → ℕ) where
       mul_cancel L d (inv d) q q' (eval_code L (quot R x p) y) (eval_code L (quot R x p') y) u
       (cancel L (R.product d q) (R.product d q') (eval R p x) (L.mul_code d q) (L.mul_code d q') sums)
 
-  agree : (x : ℕ) (p p' ys : List ℕ) → Codes R ys → All (Undone x) ys → eval R p x ≡ eval R p' x → map (eval R p) ys ≡ map (eval R p') ys
+  agree : (x : ℕ) (p p' ys : List ℕ) → Codes R ys → AllByRecursion (Undone x) ys → eval R p x ≡ eval R p' x → map (eval R p) ys ≡ map (eval R p') ys
       → map (eval R (quot R x p)) ys ≡ map (eval R (quot R x p')) ys
   agree x p p' [] hy a e es = refl
   agree x p p' (y ∷ ys) hy a e es =

@@ -2,7 +2,7 @@
 --   Takes  p has as many coefficients as there are points, all of them codes, and takes these values there
 -- Assumes nothing.
 use Rattle.std.specs.Prelude.{◌≡◌, ℕ, ◌^◌, ◌<◌, List, map, length}
-use Rattle.std.specs.List.{AllByRecursion as All}
+use Rattle.std.specs.List.{AllByRecursion}
 use Rattle.levels.specs.Rings.{Arithmetic, RingLaws}
 use Rattle.algebra.specs.Polynomials.{Codes, eval}
 use Rattle.algebra.specs.Units.{Apart}
@@ -22,7 +22,7 @@ pub record Interpolates : Type 0 where
 -- t digits below s tell a number below s^t, and every such number has them
 pub record Counts : Type 0 where
   pub sized : (s t n : ℕ) → length (digits s t n) ≡ t
-  pub codes : (s t n : ℕ) → 0 < s → All (λ c. c < s) (digits s t n)
+  pub codes : (s t n : ℕ) → 0 < s → AllByRecursion (λ c. c < s) (digits s t n)
   pub back : (s t n : ℕ) → 0 < s → n < s ^ t → number s (digits s t n) ≡ n
-  pub below : (s : ℕ) → 0 < s → (cs : List ℕ) → All (λ c. c < s) cs → number s cs < s ^ length cs
-  pub forth : (s : ℕ) → 0 < s → (cs : List ℕ) → All (λ c. c < s) cs → digits s (length cs) (number s cs) ≡ cs
+  pub below : (s : ℕ) → 0 < s → (cs : List ℕ) → AllByRecursion (λ c. c < s) cs → number s cs < s ^ length cs
+  pub forth : (s : ℕ) → 0 < s → (cs : List ℕ) → AllByRecursion (λ c. c < s) cs → digits s (length cs) (number s cs) ≡ cs

@@ -3,7 +3,7 @@
 --   Apart    inv answers an inverse for the difference of any two of the points
 -- Assumes nothing.
 use Rattle.std.specs.Prelude.{◌≡◌, ℕ, ◌<◌, List, [], ◌∷◌}
-use Rattle.std.specs.List.{AllByRecursion as All}
+use Rattle.std.specs.List.{AllByRecursion}
 use Rattle.levels.specs.Rings.{Arithmetic}
 
 abbrev pub Divides : Arithmetic → (ℕ → ℕ) → Type 0
@@ -11,4 +11,4 @@ Divides R inv = (a : ℕ) → 0 < a → a < R.count → R.product a (inv a) ≡ 
 
 abbrev pub Apart : Arithmetic → (ℕ → ℕ) → List ℕ → Type 0
 Apart R inv [] = Unit {0}
-Apart R inv (x ∷ xs) = All (λ y. R.product (R.difference y x) (inv (R.difference y x)) ≡ R.one) xs × Apart R inv xs
+Apart R inv (x ∷ xs) = AllByRecursion (λ y. R.product (R.difference y x) (inv (R.difference y x)) ≡ R.one) xs × Apart R inv xs

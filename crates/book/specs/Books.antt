@@ -1,10 +1,10 @@
 -- What the calls on a book are refused for, hand out and leave. A refusal leaves all as it was.
 --   rows_at    the refusal table at a call on a book with these words
---   Opened    a newly opened book
---   cleared   the words after opening
---   wrote     the words after a call that sets one label to a standing
---   took      the words after a take
---   next      the number after a label's, or 0 at the end
+--   Opened     a newly opened book
+--   cleared    the words after opening
+--   wrote      the words after a call that sets one label to a standing
+--   took       the words after a take
+--   next       the number after a label's, or 0 at the end
 --   cursor_at  the cursor after a take
 -- Assumes nothing.
 use Rattle.std.specs.Prelude.{◌≡◌, ℕ, ◌+◌, cond, List, length, replicate, Ok, Err, Result, nat_lt, slice_set}

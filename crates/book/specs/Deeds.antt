@@ -1,7 +1,7 @@
 -- What mark, spoil and strike are to one label.
 --   asked      the call that asks for a deed
 --   made       how the label stands after it
---   is_high     the grade is above 1000
+--   is_high    the grade is above 1000
 --   misplaced  the label does not stand as the deed needs it
 --   against    the rows of the table that speak against a deed to a label that stands so
 -- Assumes nothing.

@@ -1,7 +1,7 @@
 -- How a word is read, and what a call writes.
---   standing   what a word says of its label
---   standings  what each of the words says
---   code       the word that a call writes for a standing
+--   standing                                what a word says of its label
+--   standings                               what each of the words says
+--   code                                    the word that a call writes for a standing
 --   is_waiting, is_out, is_graded, is_torn  which standing it is
 -- Assumes nothing.
 use Rattle.std.specs.Prelude.{ℕ, ◌+◌, ◌-◌, Bool, true, false, cond, ◌||◌, List, map, ◌==◌, nat_le}

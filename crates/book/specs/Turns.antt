@@ -1,8 +1,8 @@
 -- One call of a row: what it answers, and the book and the words that it leaves.
 --   told_take, told_deed  the answer to what take, or what mark, spoil or strike returned
---   Holds   a book with these words stands for a plain book
---   Turned  what a call does to a book that stands for the plain book p
---   Unfit   what it does where the memory handed in is not N words
+--   Holds                 a book with these words stands for a plain book
+--   Turned                what a call does to a book that stands for the plain book p
+--   Unfit                 what it does where the memory handed in is not N words
 -- Assumes nothing.
 use Rattle.std.specs.Prelude.{◌≡◌, ℕ, List, Ok, Err, Result}
 use Rattle.plan.specs.declared.shape.Plan.{Plan}

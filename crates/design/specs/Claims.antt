@@ -1,5 +1,5 @@
 -- What holds of every orthogonal array, whatever it was made by.
---   SumLaws  finite sums of integers
+--   SumLaws   finite sums of integers
 --   Exchange  what does not depend on factor f has the same sum at any two levels of f
 --   Fibre     each level of a factor is on N/s labels
 --   Effect    grades that are a base plus a share per factor's level show the shares' difference, N/s times

@@ -3,7 +3,7 @@
 --   Meets    a label has the level w j at each factor j of F
 --   Design   any t factors with a level each are met by exactly one label
 --   Depends  a quantity that is decided by the levels at the factors of F
---   sum_at    the sum of h over the labels with level a at factor f
+--   sum_at   the sum of h over the labels with level a at factor f
 -- Assumes nothing.
 use Rattle.std.specs.Prelude.{◌≡◌, ℕ, ◌^◌, ◌<◌, ◌≤◌, ◌⊎◌, List, [], ◌∷◌, length, ℤ}
 use Rattle.design.specs.Sums.{sum_to, only}

@@ -1,5 +1,5 @@
 -- Finite sums of integers.
---   sum_to    the sum of h 0 to h (n - 1)
+--   sum_to   the sum of h 0 to h (n - 1)
 --   only     a term that counts only where c is a
 --   Inverse  a permutation of the numbers below n, with its inverse
 -- Assumes nothing.

@@ -1,8 +1,8 @@
 -- The arithmetic for a count: polynomials at 4, 8 and 16, tables at 2, 3, 5, 7, 11 and 13, clock residues at the rest.
---   meaning        the arithmetic that a choice stands for
+--   meaning         the arithmetic that a choice stands for
 --   arithmetic_for  the arithmetic for a count
---   Picks          the choice is the one for the count
---   Chosen         what is promised of a choice
+--   Picks           the choice is the one for the count
+--   Chosen          what is promised of a choice
 -- Assumes nothing.
 use Rattle.std.specs.Prelude.{◌≡◌, ℕ, true, false, cond}
 use Rattle.levels.specs.Rings.{Arithmetic}

@@ -1,6 +1,6 @@
 -- The counts that each arithmetic serves, and the refusal of any other.
 --   clock_serves, listed_serves, binary_serves  the arithmetic can be made with this count
---   unserved                                 the one row of the refusal table at the making of an arithmetic
+--   unserved                                    the one row of the refusal table at the making of an arithmetic
 -- Assumes nothing.
 use Rattle.std.specs.Prelude.{ℕ, Bool, false, not, ◌&&◌, ◌||◌, List, [], ◌∷◌, ◌==◌, nat_le}
 use Rattle.refusal.specs.Table.{Row, row}

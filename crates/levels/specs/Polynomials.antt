@@ -6,7 +6,7 @@
 --   divided      what long division by m leaves of a polynomial
 --   degree       the degree of a modulus
 --   remainder    the remainder by m of a product, for m of degree 2 to 4
---   modulus_of    z² + z + 1 at 4, z³ + z + 1 at 8 and z⁴ + z + 1 at 16
+--   modulus_of   z² + z + 1 at 4, z³ + z + 1 at 8 and z⁴ + z + 1 at 16
 --   polynomials  the arithmetic of the polynomials below the modulus
 -- Assumes nothing.
 use Rattle.std.specs.Prelude.{◌≡◌, ℕ, zero, suc, ◌+◌, ◌-◌, ◌*◌, ◌/◌, ◌%◌, ◌^◌, ◌<◌, ◌≤◌, cond, ◌==◌, bit_xor, nat_le}

@@ -2,7 +2,7 @@
 --   entry   what a table holds at a place
 --   cell    what a table of rows holds at a row and a column
 --   before  how many rows the smaller counts have, one for each of their codes
---   row_of   the row of a number
+--   row_of  the row of a number
 -- Assumes nothing.
 use Rattle.std.specs.Prelude.{ℕ, ◌+◌, ◌%◌, cond, List, [], ◌∷◌, nat_lt, slice_index, slice_index_or}
 use Rattle.levels.specs.Counts.{listed_counts}

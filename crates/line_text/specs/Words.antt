@@ -12,7 +12,7 @@
 --
 -- Assumes nothing.
 use Rattle.std.specs.Prelude.{◌≡◌, ℕ, ◌<◌, Bool, true, false, ◌||◌, ◌⊎◌, List, [], ◌∷◌, ◌++◌, length, ◌==◌, ◌≢◌}
-use Rattle.std.specs.List.{AllByRecursion as All}
+use Rattle.std.specs.List.{AllByRecursion}
 use Rattle.listing_text.specs.Grammar.{Numeral}
 
 abbrev pub is_blank : ℕ → Bool
@@ -24,7 +24,7 @@ Trimmed line text =
     (line ≡ text ++ 13 ∷ []) ⊎ ((line ≡ text) × ((front : List ℕ) → line ≢ front ++ 13 ∷ []))
 
 abbrev pub Only : Bool → List ℕ → Type 0
-Only blank text = All (λ b. is_blank b ≡ blank) text
+Only blank text = AllByRecursion (λ b. is_blank b ≡ blank) text
 
 abbrev pub Parted : List ℕ → Type 0
 Parted [] = Unit {0}

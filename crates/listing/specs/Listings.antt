@@ -1,12 +1,12 @@
 -- What is printed for an input.
---   Parsed       the request that the input's first line makes, or that it makes none
+--   Parsed        the request that the input's first line makes, or that it makes none
 --   listing_rows  the refusal table's rows for a request: a malformed line goes before all others
 --   ways_for      the shuffler that a number names: 0 the turn, 1 the hash
 --   line_of       the line of a label of a listing
 --   whole_of      the header and the first lines of a listing
---   Listed       the listing that a request opens
---   RowPushed    what comes of appending a label's line
---   Prints       the text is all that is printed for the input
+--   Listed        the listing that a request opens
+--   RowPushed     what comes of appending a label's line
+--   Prints        the text is all that is printed for the input
 -- Assumes nothing.
 use Rattle.std.specs.Prelude.{◌≡◌, ℕ, true, cond, not, ◌⊎◌, List, [], ◌∷◌, ◌++◌, take, Some, None, Ok, Err, Option, Result, ◌==◌}
 use Rattle.refusal.specs.declared.Layer.TheVariants as layer

@@ -1,6 +1,6 @@
 -- When a plan is refused, and what an accepted one holds.
 --   undivided  counts of levels for which no arithmetic with inverses exists here
---   plan_rows   the refusal table's rows at planning
+--   plan_rows  the refusal table's rows at planning
 --   Planned    the plan of these numbers
 -- Assumes nothing.
 use Rattle.std.specs.Prelude.{◌≡◌, List, [], ◌∷◌, Bool, ◌&&◌, ◌||◌, ℕ, ◌^◌, ltb, leb, eqb}

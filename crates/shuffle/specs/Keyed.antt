@@ -2,7 +2,7 @@
 --
 --   within    a function of key, size and number, kept to numbers below the size and sizes up to 65,536
 --   preimage  the number below n that a function sends to i
---   ways_by    out by a function, and back by its preimages
+--   ways_by   out by a function, and back by its preimages
 --   turn      i plus the key, an exact sum, modulo the size
 --
 -- Assumes nothing.

@@ -2,7 +2,7 @@
 use Rattle.std.proofs.Common.{◌≡◌, ℕ, ◌+◌, ◌*◌, ◌^◌, ◌<◌, ◌≤◌, true, eqb, List, length, get_or, take, sum_by, sym, ap, ◌∙◌, subst, mul_comm, arith, length-take}
 use native.Mathlib.Nat.{pow-le-pow_right}
 use lib.ListN.{length-map}
-use Rattle.std.specs.List.{AllByRecursion as All}
+use Rattle.std.specs.List.{AllByRecursion}
 use Rattle.std.specs.Int.Digits.{number_from_digits, AllBelowBase}
 use Rattle.std.proofs.lemmas.Int.Digits.{number_lt, number_more}
 use Rattle.std.proofs.ByRecursion.{All-map, All-get_or, All-weaker, All-take}
@@ -32,7 +32,7 @@ module _ {Q : Claim} {cells : List ℕ} (A : Accepted Q cells) where
   at_below : (run c : ℕ) → run < Q.runs → c < Q.factors → at Q cells run c < Q.levels
   at_below run c h l = All-get_or (λ z. z < Q.levels) cells (run * Q.factors + c) 0 (place_lt run c h l) A.levels
 
-  shown_under : (cs : List ℕ) → All (λ c. c < Q.factors) cs → (run : ℕ) → run < Q.runs → AllBelowBase Q.levels (shown Q cells cs run)
+  shown_under : (cs : List ℕ) → AllByRecursion (λ c. c < Q.factors) cs → (run : ℕ) → run < Q.runs → AllBelowBase Q.levels (shown Q cells cs run)
   shown_under cs b run h =
       All-map (λ z. z < Q.levels) (at Q cells run) cs (All-weaker (λ c. c < Q.factors) (λ c. at Q cells run c < Q.levels) (λ c l. at_below run c h l) cs b)
 
@@ -46,7 +46,7 @@ module _ {Q : Claim} {cells : List ℕ} (A : Accepted Q cells) where
         below = under_written Q.levels Q.strength m (omega (arith, A.several));
       }
 
-  module _ (cs : List ℕ) (many : length cs ≡ Q.strength) (below : All (λ c. c < Q.factors) cs) where
+  module _ (cs : List ℕ) (many : length cs ≡ Q.strength) (below : AllByRecursion (λ c. c < Q.factors) cs) where
     pub combination_lt : (run : ℕ) → run < Q.runs → combination Q cells cs run < Q.levels ^ Q.strength
     combination_lt run h =
         subst (λ z. combination Q cells cs run < Q.levels ^ z) (length-map cs (at Q cells run) ∙ many)

@@ -1,6 +1,6 @@
 -- Going through the choices of columns in dictionary order: those that begin with the lowest column first. Assumes nothing.
 use Rattle.std.proofs.Common.{◌≡◌, ℕ, ◌+◌, ◌-◌, ◌<◌, ◌≤◌, ◌⊎◌, List, [], ◌∷◌, ◌++◌, length, take, set, Some, None, Option, sym, refl, ap, ◌∙◌, subst, inl, inr, ⊎_elim, append_assoc, append-nil, arith, MatchOption}
-use Rattle.std.specs.List.{AllByRecursion as All}
+use Rattle.std.specs.List.{AllByRecursion}
 use Rattle.std.proofs.ByRecursion.{All-push, All-weaker}
 use Rattle.std.proofs.lemmas.List.{take_more_set, take-take, take-set}
 use Rattle.std.proofs.lemmas.Bool.{cases_lt}
@@ -9,17 +9,17 @@ use Rattle.strength.specs.declared.claim.Failure.{Failure}
 use Rattle.strength.specs.Verdicts.{Rising, Before, Even, Fails}
 use Rattle.strength.specs.Steps.{Rest, Found, Search}
 
-rising_push : (xs : List ℕ) (c : ℕ) → Rising xs → All (λ k. k < c) xs → Rising (xs ++ c ∷ [])
+rising_push : (xs : List ℕ) (c : ℕ) → Rising xs → AllByRecursion (λ k. k < c) xs → Rising (xs ++ c ∷ [])
 rising_push [] c r a = (tt, tt)
 rising_push (x ∷ xs) c r a = (All-push (λ k. x < k) xs c r.0 a.0, rising_push xs c r.1 a.1)
 
 -- the columns chosen so far, with `low` behind them
-pub begun_more : (xs : List ℕ) (k low : ℕ) → k < length xs → Rising (take k xs) → All (λ c. c < low) (take k xs)
-    → Rising (take (k + 1) (set xs k low)) × All (λ c. c < low + 1) (take (k + 1) (set xs k low))
+pub begun_more : (xs : List ℕ) (k low : ℕ) → k < length xs → Rising (take k xs) → AllByRecursion (λ c. c < low) (take k xs)
+    → Rising (take (k + 1) (set xs k low)) × AllByRecursion (λ c. c < low + 1) (take (k + 1) (set xs k low))
 begun_more xs k low h r a =
     let is : take (k + 1) (set xs k low) ≡ take k xs ++ low ∷ [] = take_more_set xs k low h in (
       subst Rising (sym is) (rising_push (take k xs) low r a),
-      subst (All (λ c. c < low + 1)) (sym is)
+      subst (AllByRecursion (λ c. c < low + 1)) (sym is)
           (All-push (λ c. c < low + 1) (take k xs) low (All-weaker (λ c. c < low) (λ c. c < low + 1) (λ c l. omega arith) (take k xs) a) (omega arith)),
     )
 
@@ -29,7 +29,7 @@ front_kept xs ys k low e =
     sym (take-take k (k + 1) ys (omega arith)) ∙ ap (take k) e ∙ take-take k (k + 1) (set xs k low) (omega arith) ∙ take-set xs k low
 
 -- rising columns from `low` on leave no more than so many
-rising_room : (low d : ℕ) (xs : List ℕ) → All (λ c. low ≤ c) xs → All (λ c. c < d) xs → Rising xs → length xs ≤ d - low
+rising_room : (low d : ℕ) (xs : List ℕ) → AllByRecursion (λ c. low ≤ c) xs → AllByRecursion (λ c. c < d) xs → Rising xs → length xs ≤ d - low
 rising_room low d [] a b r = omega arith
 rising_room low d (x ∷ xs) a b r =
     let rest : length xs ≤ d - (x + 1) = rising_room (x + 1) d xs (All-weaker (λ k. x < k) (λ k. x + 1 ≤ k) (λ k h. omega arith) xs r.0) b.1 r.1 in
@@ -60,7 +60,7 @@ module _ (Q : Claim) (cells : List ℕ) where
   split : (k low x : ℕ) (xs : List ℕ) → Rest Q k low (x ∷ xs) → ((x ≡ low) × Rest Q (k + 1) (low + 1) xs) ⊎ Rest Q k (low + 1) (x ∷ xs)
   split k low x xs r = ⊎_elim (λ h. inr (above h)) (λ h. inl (here h)) (cases_lt low x)
     where
-      later : (y : ℕ) → y ≤ x + 1 → All (λ c. y ≤ c) xs
+      later : (y : ℕ) → y ≤ x + 1 → AllByRecursion (λ c. y ≤ c) xs
       later y h = All-weaker (λ c. x < c) (λ c. y ≤ c) (λ c l. omega arith) xs r.rising.0
 
       above : low < x → Rest Q k (low + 1) (x ∷ xs)

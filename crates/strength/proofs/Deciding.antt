@@ -1,7 +1,7 @@
 -- From the search through all choices to the verdict. Assumes nothing.
 use Rattle.std.proofs.Common.{◌≡◌, ℕ, ◌*◌, ◌/◌, ◌^◌, ◌<◌, ◌≤◌, ◌≢◌, List, [], ◌∷◌, map, length, None, sym, ap, ◌∙◌, subst, arith}
 use native.Mathlib.Nat.{div-eq_of_eq-mul_left, one-le-pow}
-use Rattle.std.specs.List.{AllByRecursion as All}
+use Rattle.std.specs.List.{AllByRecursion}
 use Rattle.std.proofs.ByRecursion.{All-weaker}
 use Rattle.strength.specs.declared.claim.Claim.{Claim}
 use Rattle.strength.specs.declared.claim.Failure.{Failure}
@@ -45,7 +45,7 @@ module _ {Q : Claim} {cells : List ℕ} (A : Accepted Q cells) where
     sorted_choice =
         record {
           many = sorted_length (λ p. p.0) pairs ∙ ap length columns_is ∙ C.many;
-          below = sorted_all (λ p. p.0) (λ c. c < Q.factors) pairs (subst (All (λ c. c < Q.factors)) (sym columns_is) C.below);
+          below = sorted_all (λ p. p.0) (λ c. c < Q.factors) pairs (subst (AllByRecursion (λ c. c < Q.factors)) (sym columns_is) C.below);
           rising = sorted_rising pairs (subst Different (sym columns_is) C.different);
         }
 
@@ -53,7 +53,7 @@ module _ {Q : Claim} {cells : List ℕ} (A : Accepted Q cells) where
     sorted_tuple =
         record {
           many = sorted_length (λ p. p.1) pairs ∙ ap length levels_is ∙ T.many;
-          below = sorted_all (λ p. p.1) (λ l. l < Q.levels) pairs (subst (All (λ l. l < Q.levels)) (sym levels_is) T.below);
+          below = sorted_all (λ p. p.1) (λ l. l < Q.levels) pairs (subst (AllByRecursion (λ l. l < Q.levels)) (sym levels_is) T.below);
         }
 
     -- a run has the tuple in one order where it has it in the other

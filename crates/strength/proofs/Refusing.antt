@@ -1,6 +1,6 @@
 -- Which row of the refusal table a check is given, in the order of its tests. Assumes nothing.
 use Rattle.std.proofs.Common.{◌≡◌, ℕ, zero, suc, ◌*◌, ◌^◌, ◌<◌, ◌≤◌, false, not, ◌||◌, eqb, ltb, leb, List, [], ◌∷◌, length, get_or, take, drop, Some, None, refl, ap, ◌∙◌, ⊎_elim, arith}
-use Rattle.std.specs.List.{AllByRecursion as All}
+use Rattle.std.specs.List.{AllByRecursion}
 use Rattle.std.proofs.ByRecursion.{All-from_get_or}
 use Rattle.std.proofs.lemmas.Bool.{lt-ltb, le-ltb, leb-false, eq-eqb, ne_eqb, or_from, or_left, or_right, not_from_true, not_from_false, cases_eq, cond-true, cond-false}
 use Rattle.refusal.specs.declared.Layer.TheVariants as layer
@@ -22,7 +22,7 @@ pub record Numbers (Q : Claim) : Type 0 where
   pub short : Q.runs ≤ 65536
 
 -- rows that do not hold are passed over
-skip : (k : ℕ) (rows : List Row) → All (λ q. q.holds ≡ false) (take k rows) → refusal rows ≡ refusal (drop k rows)
+skip : (k : ℕ) (rows : List Row) → AllByRecursion (λ q. q.holds ≡ false) (take k rows) → refusal rows ≡ refusal (drop k rows)
 skip zero rows h = refl
 skip (suc k) [] h = refl
 skip (suc k) (r ∷ rs) h = cond-false r.holds (Some r.slip) (refusal rs) h.0 ∙ skip k rs h.1

@@ -1,6 +1,6 @@
 -- Any different columns with a level each are rising columns with a level each, in another order. Assumes nothing.
 use Rattle.std.proofs.Common.{◌≡◌, ℕ, suc, ◌<◌, ◌≤◌, Bool, true, false, cond, ◌&&◌, eqb, ltb, ◌≢◌, List, [], ◌∷◌, map, length, refl, ap, ◌∙◌, arith}
-use Rattle.std.specs.List.{AllByRecursion as All}
+use Rattle.std.specs.List.{AllByRecursion}
 use Rattle.std.proofs.ByRecursion.{All-weaker}
 use Rattle.std.proofs.lemmas.Bool.{cond_both, ltb-true, ltb-false}
 use Rattle.strength.specs.Arrays.{same, Different}
@@ -41,12 +41,12 @@ levels_zipped (c ∷ cs) [] e = absurd (omega arith)
 levels_zipped (c ∷ cs) (u ∷ us) e = ap (λ zs. u ∷ zs) (levels_zipped cs us (omega arith))
 
 -- what holds of each pair still does
-put_all : (f : ℕ × ℕ → ℕ) (P : ℕ → Type 0) (p : ℕ × ℕ) (qs : Pairs) → P (f p) → All P (map f qs) → All P (map f (put p qs))
+put_all : (f : ℕ × ℕ → ℕ) (P : ℕ → Type 0) (p : ℕ × ℕ) (qs : Pairs) → P (f p) → AllByRecursion P (map f qs) → AllByRecursion P (map f (put p qs))
 put_all f P p [] h a = (h, tt)
 put_all f P p (q ∷ qs) h a =
-    cond_both (ltb p.0 q.0) (p ∷ q ∷ qs) (q ∷ put p qs) (λ ps. All P (map f ps)) (λ e. (h, a)) (λ e. (a.0, put_all f P p qs h a.1))
+    cond_both (ltb p.0 q.0) (p ∷ q ∷ qs) (q ∷ put p qs) (λ ps. AllByRecursion P (map f ps)) (λ e. (h, a)) (λ e. (a.0, put_all f P p qs h a.1))
 
-pub sorted_all : (f : ℕ × ℕ → ℕ) (P : ℕ → Type 0) (ps : Pairs) → All P (map f ps) → All P (map f (sorted ps))
+pub sorted_all : (f : ℕ × ℕ → ℕ) (P : ℕ → Type 0) (ps : Pairs) → AllByRecursion P (map f ps) → AllByRecursion P (map f (sorted ps))
 sorted_all f P [] a = tt
 sorted_all f P (p ∷ ps) a = put_all f P p (sorted ps) a.0 (sorted_all f P ps a.1)
 
@@ -59,7 +59,7 @@ pub sorted_length : (f : ℕ × ℕ → ℕ) (ps : Pairs) → length (map f (sor
 sorted_length f [] = refl
 sorted_length f (p ∷ ps) = put_length f p (sorted ps) ∙ ap suc (sorted_length f ps)
 
-put_rising : (p : ℕ × ℕ) (qs : Pairs) → All (λ k. p.0 ≢ k) (columns_of qs) → Rising (columns_of qs) → Rising (columns_of (put p qs))
+put_rising : (p : ℕ × ℕ) (qs : Pairs) → AllByRecursion (λ k. p.0 ≢ k) (columns_of qs) → Rising (columns_of qs) → Rising (columns_of (put p qs))
 put_rising p [] d r = (tt, tt)
 put_rising p (q ∷ qs) d r =
     cond_both (ltb p.0 q.0) (p ∷ q ∷ qs) (q ∷ put p qs) (λ ps. Rising (columns_of ps))

@@ -8,7 +8,7 @@
 --   OrthogonalArray   every tuple of levels occurs equally often at every t different columns
 -- Assumes nothing.
 use Rattle.std.specs.Prelude.{◌≡◌, ℕ, zero, suc, ◌+◌, ◌*◌, ◌<◌, Bool, true, false, cond, ◌&&◌, ◌≢◌, List, [], ◌∷◌, map, length, ◌==◌, slice_index}
-use Rattle.std.specs.List.{AllByRecursion as All}
+use Rattle.std.specs.List.{AllByRecursion}
 use Rattle.strength.specs.declared.claim.Claim.{Claim}
 
 -- the cell of run i at column j stands at i times the factors, plus j
@@ -38,22 +38,22 @@ occurrences Q cells columns tuple = tally (λ run. same (shown Q cells columns r
 -- no two are the same
 abbrev pub Different : List ℕ → Type 0
 Different [] = Unit {0}
-Different (c ∷ cs) = All (λ k. c ≢ k) cs × Different cs
+Different (c ∷ cs) = AllByRecursion (λ k. c ≢ k) cs × Different cs
 
 -- as many different columns as the strength, in any order
 pub record Columns (Q : Claim) (columns : List ℕ) : Type 0 where
   pub many : length columns ≡ Q.strength
-  pub below : All (λ c. c < Q.factors) columns
+  pub below : AllByRecursion (λ c. c < Q.factors) columns
   pub different : Different columns
 
 -- as many levels
 pub record Tuple (Q : Claim) (tuple : List ℕ) : Type 0 where
   pub many : length tuple ≡ Q.strength
-  pub below : All (λ l. l < Q.levels) tuple
+  pub below : AllByRecursion (λ l. l < Q.levels) tuple
 
 -- the table has a cell for each run and factor, the cells are levels, and at any t different columns each tuple of
 -- levels occurs in as many runs as the index says
 pub record OrthogonalArray (Q : Claim) (cells : List ℕ) (index : ℕ) : Type 0 where
   pub sized : length cells ≡ Q.runs * Q.factors
-  pub levels : All (λ l. l < Q.levels) cells
+  pub levels : AllByRecursion (λ l. l < Q.levels) cells
   pub balanced : (columns tuple : List ℕ) → Columns Q columns → Tuple Q tuple → occurrences Q cells columns tuple ≡ index

@@ -1,9 +1,9 @@
 -- When a table is not checked, and what an accepted one keeps.
 --   check_rows  the refusal table's rows at a check, with so many counters
---   Accepted   what is known of the numbers and the cells where none holds
+--   Accepted    what is known of the numbers and the cells where none holds
 -- Assumes nothing.
 use Rattle.std.specs.Prelude.{◌≡◌, ℕ, ◌*◌, ◌^◌, ◌<◌, ◌≤◌, not, ◌||◌, List, [], ◌∷◌, length, ◌==◌, nat_le, nat_lt, slice_index}
-use Rattle.std.specs.List.{AllByRecursion as All}
+use Rattle.std.specs.List.{AllByRecursion}
 use Rattle.refusal.specs.declared.Layer.TheVariants as layer
 use Rattle.refusal.specs.Table.{Row, row, row_at}
 use Rattle.strength.specs.declared.claim.Claim.{Claim}
@@ -29,4 +29,4 @@ pub record Accepted (Q : Claim) (cells : List ℕ) : Type 0 where
   pub short : Q.runs ≤ 65536
   pub sized : length cells ≡ Q.runs * Q.factors
   pub small : Q.levels ^ Q.strength ≤ 65536
-  pub levels : All (λ l. l < Q.levels) cells
+  pub levels : AllByRecursion (λ l. l < Q.levels) cells

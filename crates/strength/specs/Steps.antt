@@ -7,7 +7,7 @@
 --   Search       what going through the choices that begin with `chosen` finds
 -- Assumes nothing.
 use Rattle.std.specs.Prelude.{◌≡◌, ℕ, ◌+◌, ◌*◌, ◌<◌, ◌≤◌, List, ◌++◌, length, Some, None, Option, nat_eq, slice_index}
-use Rattle.std.specs.List.{AllByRecursion as All}
+use Rattle.std.specs.List.{AllByRecursion}
 use Rattle.std.specs.Int.Digits.{number_from_digits}
 use Rattle.strength.specs.declared.claim.Claim.{Claim}
 use Rattle.strength.specs.declared.claim.Failure.{Failure}
@@ -29,8 +29,8 @@ Share counters runs m = slice_index counters m * length counters ≡ runs
 -- rising columns from `low` on that make a choice of k columns whole
 pub record Rest (Q : Claim) (k low : ℕ) (columns : List ℕ) : Type 0 where
   pub many : k + length columns ≡ Q.strength
-  pub from : All (λ c. low ≤ c) columns
-  pub below : All (λ c. c < Q.factors) columns
+  pub from : AllByRecursion (λ c. low ≤ c) columns
+  pub below : AllByRecursion (λ c. c < Q.factors) columns
   pub rising : Rising columns
 
 -- the first way to go on that fails

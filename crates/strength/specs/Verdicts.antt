@@ -8,7 +8,7 @@
 --   Right         the right verdict
 -- Assumes nothing.
 use Rattle.std.specs.Prelude.{◌≡◌, ℕ, ◌*◌, ◌/◌, ◌^◌, ◌<◌, ◌⊎◌, List, [], ◌∷◌, length, sum_by}
-use Rattle.std.specs.List.{AllByRecursion as All}
+use Rattle.std.specs.List.{AllByRecursion}
 use Rattle.std.specs.Int.Digits.{number_from_digits}
 use Rattle.strength.specs.declared.claim.Claim.{Claim}
 use Rattle.strength.specs.declared.claim.Failure.{Failure}
@@ -19,12 +19,12 @@ use Rattle.strength.specs.Arrays.{occurrences, Tuple, OrthogonalArray}
 -- each is below those after it
 abbrev pub Rising : List ℕ → Type 0
 Rising [] = Unit {0}
-Rising (c ∷ cs) = All (λ k. c < k) cs × Rising cs
+Rising (c ∷ cs) = AllByRecursion (λ k. c < k) cs × Rising cs
 
 -- as many columns as the strength, lowest first: each set of columns is one choice
 pub record Choice (Q : Claim) (columns : List ℕ) : Type 0 where
   pub many : length columns ≡ Q.strength
-  pub below : All (λ c. c < Q.factors) columns
+  pub below : AllByRecursion (λ c. c < Q.factors) columns
   pub rising : Rising columns
 
 -- the first column that differs is lower

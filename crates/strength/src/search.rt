@@ -1,6 +1,6 @@
 // The choices of columns in dictionary order, up to the first that fails.
 ghost use Rattle.std.specs.Prelude.{◌≡◌, ◌+◌, ◌^◌, ◌<◌, ◌≤◌, map, length, take, replicate, sum_by, MatchOption};
-ghost use Rattle.std.specs.List.{AllByRecursion as All};
+ghost use Rattle.std.specs.List.{AllByRecursion};
 ghost use Rattle.strength.specs.Refusals.{Accepted};
 ghost use Rattle.strength.specs.Verdicts.{Choice, Rising, Even, Fails};
 ghost use Rattle.strength.specs.Steps.{Search};
@@ -11,7 +11,7 @@ use crate::counting::{clear, count_runs, uneven};
 
 // The columns as one number, with bit k set for column k.
 fn bits_of(columns: &[usize]) -> u32
-    requires { (length columns.now ≤ 17) × (All (λ c. c < 17) columns.now) }
+    requires { (length columns.now ≤ 17) × (AllByRecursion (λ c. c < 17) columns.now) }
     ensures { result ≡ sum_by (λ c. 2 ^ c) columns.now }
 {
     let mut bits: u32 = 0;
@@ -62,7 +62,7 @@ pub(crate) fn first_failure<C: Levelled>(
     requires within { chosen ≤ claim.strength }
     requires room { low ≤ claim.factors }
     requires rising { Rising (take chosen columns.old) }
-    requires below { All (λ c. c < low) (take chosen columns.old) }
+    requires below { AllByRecursion (λ c. c < low) (take chosen columns.old) }
     ensures answer { Search claim (map C.Levelled.level table.now) (take chosen columns.old) chosen low result }
     ensures counters { counters.new ≡ replicate (claim.levels ^ claim.strength) 0 }
     ensures chosen { take chosen columns.new ≡ take chosen columns.old }

@@ -1,6 +1,6 @@
 -- Wishes that no row of the table refuses are t different factors with a level each, and the other way round. Assumes nothing.
 use Rattle.std.proofs.Common.{◌≡◌, ℕ, zero, suc, ◌<◌, Bool, false, not, eqb, ltb, leb, ◌≢◌, List, [], ◌∷◌, length, get_or, None, sym, ap, arith}
-use Rattle.std.specs.List.{AllByRecursion as All}
+use Rattle.std.specs.List.{AllByRecursion}
 use Rattle.std.proofs.lemmas.Bool.{leb-false, ltb-false, eqb-false, lt-leb, le-ltb, eq-eqb, ne_eqb}
 use Rattle.refusal.specs.Table.{first, refusal}
 use Rattle.refusal.proofs.Firsts.{none_always}
@@ -11,11 +11,11 @@ use Rattle.strip.specs.declared.wish.Wish.{Wish}
 use Rattle.strip.specs.Names.{Apart, Chosen}
 use Rattle.strip.specs.Wishes.{idle, factor_of, level_of, repeats, find_rows, locate_rows}
 
-pub all_placed : (Q : Wish → Type 0) (ws : List Wish) → ((k : ℕ) → k < length ws → Q (get_or ws k idle)) → All Q ws
+pub all_placed : (Q : Wish → Type 0) (ws : List Wish) → ((k : ℕ) → k < length ws → Q (get_or ws k idle)) → AllByRecursion Q ws
 all_placed Q [] h = tt
 all_placed Q (w ∷ ws) h = (h 0 (omega arith), all_placed Q ws (λ k l. h (suc k) (omega arith)))
 
-pub placed_all : (Q : Wish → Type 0) (ws : List Wish) → All Q ws → (k : ℕ) → k < length ws → Q (get_or ws k idle)
+pub placed_all : (Q : Wish → Type 0) (ws : List Wish) → AllByRecursion Q ws → (k : ℕ) → k < length ws → Q (get_or ws k idle)
 placed_all Q [] a k h = absurd (omega arith)
 placed_all Q (w ∷ ws) a zero h = a.0
 placed_all Q (w ∷ ws) a (suc k) h = placed_all Q ws a.1 k (omega arith)

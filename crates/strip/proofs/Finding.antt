@@ -2,7 +2,7 @@
 use Rattle.std.proofs.Common.{◌≡◌, ℕ, ◌^◌, ◌<◌, ◌≢◌, List, [], ◌∷◌, map, length, sym, refl, ap, ◌∙◌, subst, ap₂, arith}
 use mathlib.Core.List.{head-eq_of_cons-eq, tail-eq_of_cons-eq}
 use lib.ListN.{length-map}
-use Rattle.std.specs.List.{AllByRecursion as All}
+use Rattle.std.specs.List.{AllByRecursion}
 use Rattle.levels.specs.Rings.{Arithmetic, RingLaws}
 use Rattle.levels.specs.Ring.{zero_code, zero-add}
 use Rattle.shuffle.specs.Ways.{Ways, ShuffleLaws}
@@ -31,11 +31,11 @@ module _ (P : Plan) {R : Arithmetic} {W : Ways} (L : RingLaws R) (M : ShuffleLaw
   labels_power : P.labels ≡ R.count ^ P.strength
   labels_power = P.sized ∙ ap (λ s. s ^ P.strength) (sym counts)
 
-  points_codes : (ws : List Wish) → All (λ w. w.factor < P.factors) ws → Codes R (points_of ws)
+  points_codes : (ws : List Wish) → AllByRecursion (λ w. w.factor < P.factors) ws → Codes R (points_of ws)
   points_codes [] h = tt
   points_codes (w ∷ ws) h = (omega (arith, h.0, P.named, counts), points_codes ws h.1)
 
-  values_codes : (ws : List Wish) → All (λ w. w.level < P.levels) ws → Codes R (values_of P W ws)
+  values_codes : (ws : List Wish) → AllByRecursion (λ w. w.level < P.levels) ws → Codes R (values_of P W ws)
   values_codes [] h = tt
   values_codes (w ∷ ws) h = (
     subst (λ s. W.back (level_key P.seed w.factor) P.levels w.level < s) (sym counts) (M.back_below _ _ _ (key_fits _ P.seed w.factor) h.0),
@@ -49,8 +49,8 @@ module _ (P : Plan) {R : Arithmetic} {W : Ways} (L : RingLaws R) (M : ShuffleLaw
       omega arith
 
   module _ (inv : ℕ → ℕ) (D : units.Divides R inv) where
-    apart_from : (w : Wish) (ws : List Wish) → w.factor < P.factors → All (λ v. v.factor < P.factors) ws → All (λ v. v.factor ≢ w.factor) ws
-        → All (λ y. R.product (R.difference y (point w.factor)) (inv (R.difference y (point w.factor))) ≡ R.one) (points_of ws)
+    apart_from : (w : Wish) (ws : List Wish) → w.factor < P.factors → AllByRecursion (λ v. v.factor < P.factors) ws → AllByRecursion (λ v. v.factor ≢ w.factor) ws
+        → AllByRecursion (λ y. R.product (R.difference y (point w.factor)) (inv (R.difference y (point w.factor))) ≡ R.one) (points_of ws)
     apart_from w [] h hs ne = tt
     apart_from w (v ∷ vs) h hs ne = (
       D (R.difference v.factor w.factor)
@@ -59,12 +59,12 @@ module _ (P : Plan) {R : Arithmetic} {W : Ways} (L : RingLaws R) (M : ShuffleLaw
       apart_from w vs h hs.1 ne.1,
     )
 
-    points_apart : (ws : List Wish) → All (λ w. w.factor < P.factors) ws → Apart ws → units.Apart R inv (points_of ws)
+    points_apart : (ws : List Wish) → AllByRecursion (λ w. w.factor < P.factors) ws → Apart ws → units.Apart R inv (points_of ws)
     points_apart [] h a = tt
     points_apart (w ∷ ws) h a = (apart_from w ws h.0 h.1 a.0, points_apart ws h.1 a.1)
 
     -- the wished levels stand at a place exactly where its digits take the values at the points
-    meets_values : (n : ℕ) (ws : List Wish) → All (λ w. level_at P R W n w.factor ≡ w.level) ws
+    meets_values : (n : ℕ) (ws : List Wish) → AllByRecursion (λ w. level_at P R W n w.factor ≡ w.level) ws
         → map (eval R (digits R.count P.strength n)) (points_of ws) ≡ values_of P W ws
     unfolding level_at
     meets_values n [] h = refl
@@ -74,7 +74,7 @@ module _ (P : Plan) {R : Arithmetic} {W : Ways} (L : RingLaws R) (M : ShuffleLaw
         (meets_values n ws h.1)
 
     values_meet : (n : ℕ) (ws : List Wish) → map (eval R (digits R.count P.strength n)) (points_of ws) ≡ values_of P W ws
-        → All (λ w. level_at P R W n w.factor ≡ w.level) ws
+        → AllByRecursion (λ w. level_at P R W n w.factor ≡ w.level) ws
     unfolding level_at
     values_meet n [] e = tt
     values_meet n (w ∷ ws) e = (
@@ -112,10 +112,10 @@ module _ (P : Plan) {R : Arithmetic} {W : Ways} (L : RingLaws R) (M : ShuffleLaw
       unfolding place
       place_digits = subst (λ t. digits R.count t (number R.count coefficients) ≡ coefficients) long (digits_number R.count (zero_code L) coefficients takes.codes)
 
-      place_meets : All (λ w. level_at P R W place w.factor ≡ w.level) ws
+      place_meets : AllByRecursion (λ w. level_at P R W place w.factor ≡ w.level) ws
       place_meets = values_meet place ws (ap (λ p. map (eval R p) (points_of ws)) place_digits ∙ takes.values)
 
-      place_alone : (n : ℕ) → n < P.labels → All (λ w. level_at P R W n w.factor ≡ w.level) ws → n ≡ place
+      place_alone : (n : ℕ) → n < P.labels → AllByRecursion (λ w. level_at P R W n w.factor ≡ w.level) ws → n ≡ place
       unfolding place
       place_alone n h m =
           let q : List ℕ = digits R.count P.strength n in
@@ -136,7 +136,7 @@ module _ (P : Plan) {R : Arithmetic} {W : Ways} (L : RingLaws R) (M : ShuffleLaw
           subst (λ n. Named P R W ws (W.back P.seed P.labels n)) place_is
           (record {
             below = M.back_below P.seed P.labels place P.keyed place_below;
-            meets = subst (λ n. All (λ w. level_at P R W n w.factor ≡ w.level) ws) (sym (index_back P L M counts place)) place_meets;
+            meets = subst (λ n. AllByRecursion (λ w. level_at P R W n w.factor ≡ w.level) ws) (sym (index_back P L M counts place)) place_meets;
             alone = λ k h m. back_index P L M counts k place (place_alone (index P W k) (index_below P L M counts k h) m);
           })
 

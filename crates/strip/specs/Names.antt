@@ -7,7 +7,7 @@
 --   Exact      both: the strip is an orthogonal array of strength t, and each factor has each fine setting once
 -- Assumes nothing.
 use Rattle.std.specs.Prelude.{◌≡◌, ℕ, ◌<◌, ◌≢◌, List, [], ◌∷◌, length}
-use Rattle.std.specs.List.{AllByRecursion as All}
+use Rattle.std.specs.List.{AllByRecursion}
 use Rattle.levels.specs.Rings.{Arithmetic}
 use Rattle.shuffle.specs.Ways.{Ways}
 use Rattle.plan.specs.declared.shape.Plan.{Plan}
@@ -17,17 +17,17 @@ use Rattle.strip.specs.Labels.{level, fine}
 -- no factor is wished for twice
 abbrev pub Apart : List Wish → Type 0
 Apart [] = Unit {0}
-Apart (w ∷ ws) = All (λ v. v.factor ≢ w.factor) ws × Apart ws
+Apart (w ∷ ws) = AllByRecursion (λ v. v.factor ≢ w.factor) ws × Apart ws
 
 pub record Chosen (P : Plan) (ws : List Wish) : Type 0 where
   pub sized : length ws ≡ P.strength
-  pub factors : All (λ w. w.factor < P.factors) ws
-  pub levels : All (λ w. w.level < P.levels) ws
+  pub factors : AllByRecursion (λ w. w.factor < P.factors) ws
+  pub levels : AllByRecursion (λ w. w.level < P.levels) ws
   pub apart : Apart ws
 
 -- label i has every wished level
 abbrev pub Meets : Plan → Arithmetic → Ways → List Wish → ℕ → Type 0
-Meets P R W ws i = All (λ w. level P R W i w.factor ≡ w.level) ws
+Meets P R W ws i = AllByRecursion (λ w. level P R W i w.factor ≡ w.level) ws
 
 pub record Named (P : Plan) (R : Arithmetic) (W : Ways) (ws : List Wish) (i : ℕ) : Type 0 where
   pub below : i < P.labels

@@ -1,8 +1,8 @@
 -- Rows of cells in the caller's table.
---   count_row  the row of every call on a strip: the arithmetic's count is not the plan's
---   rows_rows  the refusal table's rows when rows are asked for
---   level_rows .. and when the level of one label for one factor is
---   Written   what the table holds after rows are written: their cells in their part, and all else as before
+--   count_row   the row of every call on a strip: the arithmetic's count is not the plan's
+--   rows_rows   the refusal table's rows when rows are asked for
+--   level_rows  .. and when the level of one label for one factor is
+--   Written     what the table holds after rows are written: their cells in their part, and all else as before
 -- Assumes nothing.
 use Rattle.std.specs.Prelude.{◌≡◌, ℕ, ◌+◌, ◌*◌, ◌<◌, ◌≤◌, not, List, [], ◌∷◌, length, ◌==◌, nat_le, nat_lt, slice_index_or}
 use Rattle.refusal.specs.declared.Layer.TheVariants as layer

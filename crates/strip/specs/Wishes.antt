@@ -1,10 +1,10 @@
 -- When a search for a label is refused.
 --   factor_of, level_of  what the k-th wish names
---   repeats            the k-th wish names the factor of an earlier one
---   find_rows           the refusal table's rows when a label is sought by wishes
---   locate_rows         and when it is sought by a factor and a fine setting
---   points_of           the points of the wished factors
---   values_of           the values there that give the wished levels
+--   repeats              the k-th wish names the factor of an earlier one
+--   find_rows            the refusal table's rows when a label is sought by wishes
+--   locate_rows          and when it is sought by a factor and a fine setting
+--   points_of            the points of the wished factors
+--   values_of            the values there that give the wished levels
 -- Assumes nothing.
 use Rattle.std.specs.Prelude.{ℕ, Bool, not, leb, List, [], ◌∷◌, map, length, ◌==◌, nat_eq, nat_le, nat_lt, slice_index_or}
 use Rattle.refusal.specs.declared.Layer.TheVariants as layer

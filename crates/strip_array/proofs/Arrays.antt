@@ -1,7 +1,7 @@
 -- One label for any t different factors with a level each makes the strip's table an orthogonal array of index 1. Assumes nothing.
 use Rattle.std.proofs.Common.{◌≡◌, ℕ, suc, ◌+◌, ◌*◌, ◌/◌, ◌%◌, ◌<◌, ◌≤◌, ◌≢◌, List, [], ◌∷◌, map, length, get_or, take, sym, refl, ap, ◌∙◌, subst, ap₂, mod-lt, mul_comm, div-lt_iff_lt-mul, div-add-mod', zero-add, arith, length-take-le, get_or-take}
 use lib.ListN.{length-map}
-use Rattle.std.specs.List.{AllByRecursion as All}
+use Rattle.std.specs.List.{AllByRecursion}
 use Rattle.std.proofs.lemmas.Nat.{mul-add-lt}
 use Rattle.std.proofs.ByRecursion.{All-from_get_or}
 use Rattle.std.proofs.lemmas.List.{get_or-map}
@@ -29,17 +29,17 @@ length_wished [] ls e = refl
 length_wished (c ∷ cs) [] e = absurd (omega arith)
 length_wished (c ∷ cs) (l ∷ ls) e = ap suc (length_wished cs ls (omega arith))
 
-all_factors : (Q : ℕ → Type 0) (cs ls : List ℕ) → All Q cs → All (λ w. Q w.factor) (wished cs ls)
+all_factors : (Q : ℕ → Type 0) (cs ls : List ℕ) → AllByRecursion Q cs → AllByRecursion (λ w. Q w.factor) (wished cs ls)
 all_factors Q [] ls a = tt
 all_factors Q (c ∷ cs) [] a = tt
 all_factors Q (c ∷ cs) (l ∷ ls) a = (a.0, all_factors Q cs ls a.1)
 
-all_levels : (Q : ℕ → Type 0) (cs ls : List ℕ) → All Q ls → All (λ w. Q w.level) (wished cs ls)
+all_levels : (Q : ℕ → Type 0) (cs ls : List ℕ) → AllByRecursion Q ls → AllByRecursion (λ w. Q w.level) (wished cs ls)
 all_levels Q [] ls a = tt
 all_levels Q (c ∷ cs) [] a = tt
 all_levels Q (c ∷ cs) (l ∷ ls) a = (a.0, all_levels Q cs ls a.1)
 
-all_turned : (c : ℕ) (cs : List ℕ) → All (λ k. c ≢ k) cs → All (λ k. k ≢ c) cs
+all_turned : (c : ℕ) (cs : List ℕ) → AllByRecursion (λ k. c ≢ k) cs → AllByRecursion (λ k. k ≢ c) cs
 all_turned c [] a = tt
 all_turned c (k ∷ cs) a = ((λ e. a.0 (sym e)), all_turned c cs a.1)
 
@@ -85,7 +85,7 @@ module _ (P : Plan) (R : Arithmetic) (W : Ways) where
         subst (λ z. get_or after z blank ≡ cell_at P R W (index P W i) j) (zero-add p) (subst (λ k. get_or after (0 + p) blank ≡ cell_at P R W (index P W k) j) (zero-add i) (rows.cells i j hi hj)) in
         get_or-map (λ c. c.level) whole p blank 0 (omega arith) ∙ ap (λ (c : Cell). c.level) (get_or-take (P.labels * P.factors) after p blank within ∙ written)
 
-    same_shown : (i : ℕ) (cs : List ℕ) → i < P.labels → All (λ c. c < P.factors) cs → shown (claimed P) (part P after) cs i ≡ map (level P R W i) cs
+    same_shown : (i : ℕ) (cs : List ℕ) → i < P.labels → AllByRecursion (λ c. c < P.factors) cs → shown (claimed P) (part P after) cs i ≡ map (level P R W i) cs
     same_shown i [] h a = refl
     same_shown i (c ∷ cs) h a = ap₂ ◌∷◌ (cell i c h a.0) (same_shown i cs h a.1)
 

@@ -1,7 +1,7 @@
 -- Exactly one label for any t different factors with a level each makes the strip a design. Assumes nothing.
 use Rattle.std.proofs.Common.{◌≡◌, ℕ, ◌<◌, ◌≢◌, List, [], ◌∷◌, map, length, None, sym, refl, ◌∙◌, subst, inl, inr, ⊎_elim, arith}
 use lib.ListN.{length-map}
-use Rattle.std.specs.List.{AllByRecursion as All}
+use Rattle.std.specs.List.{AllByRecursion}
 use Rattle.std.proofs.lemmas.Bool.Decides.{nat_tests}
 use Rattle.refusal.specs.Table.{refusal}
 use Rattle.strip.specs.Rows.{count_row}
@@ -23,7 +23,7 @@ count_same P R e = grind (arith, nat_tests)
 abbrev pub wishes_for : (ℕ → ℕ) → List ℕ → List Wish
 wishes_for w F = map (λ j. record { factor = j; level = w j }) F
 
-every : (Q : ℕ → Type 0) (w : ℕ → ℕ) (F : List ℕ) → ((j : ℕ) → In j F → Q j) → (T : Wish → Type 0) → ((j : ℕ) → Q j → T (record { factor = j; level = w j })) → All T (wishes_for w F)
+every : (Q : ℕ → Type 0) (w : ℕ → ℕ) (F : List ℕ) → ((j : ℕ) → In j F → Q j) → (T : Wish → Type 0) → ((j : ℕ) → Q j → T (record { factor = j; level = w j })) → AllByRecursion T (wishes_for w F)
 every Q w [] h T k = tt
 every Q w (j ∷ F) h T k = (k j (h j (inl refl)), every Q w F (λ i m. h i (inr m)) T k)
 

@@ -1,8 +1,8 @@
 -- The effect of a factor, read off graded words.
 --   grade_of     the grade that a label's word holds
 --   effect_rows  the refusal table's rows when an effect is asked for
---   Additive    each label's grade is a base plus one share per factor's level
---   Effect      what an effect answers: its value, and what that is where the grades are additive
+--   Additive     each label's grade is a base plus one share per factor's level
+--   Effect       what an effect answers: its value, and what that is where the grades are additive
 --   effect_of    the sum of the grades of the labels with level a, less that of those with level b
 -- Assumes nothing.
 use Rattle.std.specs.Prelude.{◌≡◌, ℕ, ◌-◌, ◌/◌, ◌<◌, ◌≤◌, cond, ◌||◌, List, ◌∷◌, length, ℤ, pos, ◌+ℤ◌, ◌-ℤ◌, ◌*ℤ◌, nat_le, slice_index}

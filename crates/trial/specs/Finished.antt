@@ -1,9 +1,9 @@
 -- The effect of a factor, read off the grades of a finished book, which are given as a function.
---   finished_rows the refusal table's rows when an effect is asked for
---   grades_over   the sum of the grades of the labels that have a level
---   effect_over   the sum of the grades of the labels with level a, less that of those with level b
---   AdditiveOver each label's grade is a base plus one share per factor's level
---   EffectOver   what an effect answers: its value, and what that is where the grades are additive
+--   finished_rows  the refusal table's rows when an effect is asked for
+--   grades_over    the sum of the grades of the labels that have a level
+--   effect_over    the sum of the grades of the labels with level a, less that of those with level b
+--   AdditiveOver   each label's grade is a base plus one share per factor's level
+--   EffectOver     what an effect answers: its value, and what that is where the grades are additive
 -- Assumes nothing.
 use Rattle.std.specs.Prelude.{◌≡◌, ℕ, ◌/◌, ◌<◌, ◌≤◌, cond, ◌||◌, List, ◌∷◌, ℤ, pos, ◌+ℤ◌, ◌-ℤ◌, ◌*ℤ◌, nat_le}
 use Rattle.refusal.specs.declared.Layer.TheVariants as layer

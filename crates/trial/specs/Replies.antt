@@ -1,6 +1,6 @@
 -- What is replied to a question once a row of calls has left the plain book p.
 --   grade_in  the grade that a label has in the plain book
---   Replied  the reply to a question: find and locate know the strip alone, and an effect wants an accepted finish
+--   Replied   the reply to a question: find and locate know the strip alone, and an effect wants an accepted finish
 -- Assumes nothing.
 use Rattle.std.specs.Prelude.{◌≡◌, ℕ, Bool, true, false, map, ℤ, pos, vec_items, slice_index_or}
 use Rattle.refusal.specs.Table.{Answers}

@@ -1,12 +1,12 @@
 -- The whole promise of a trial: what a row of calls and the questions after it come to.
---   Finds     a question seeks the label that has these wishes
---   Graded    a label has a grade in the plain book
---   Covered   each combination of levels of the factors F is on a graded label
---   DoneAt    the k-th call, a take that is handed all N words, says strip done exactly where the factors F are covered
---   Trial     everything that is promised of a trial
---   Conducted that of a trial's outcome, whose words and book show the plain book that the row left
---   trial_rows the refusal table's rows when a trial is begun
---   TrialEnds how the call ends: conducted, or refused with the words as they were
+--   Finds       a question seeks the label that has these wishes
+--   Graded      a label has a grade in the plain book
+--   Covered     each combination of levels of the factors F is on a graded label
+--   DoneAt      the k-th call, a take that is handed all N words, says strip done exactly where the factors F are covered
+--   Trial       everything that is promised of a trial
+--   Conducted   that of a trial's outcome, whose words and book show the plain book that the row left
+--   trial_rows  the refusal table's rows when a trial is begun
+--   TrialEnds   how the call ends: conducted, or refused with the words as they were
 -- Assumes nothing.
 use Rattle.std.specs.Prelude.{◌≡◌, ℕ, ◌/◌, ◌<◌, ◌≤◌, true, ◌↔◌, List, ◌∷◌, length, take, ℤ, pos, ◌-ℤ◌, ◌*ℤ◌, Some, None, Ok, Err, vec_items, Result, slice_index_or}
 use Rattle.refusal.specs.Table.{Row as TableRow, refusal}

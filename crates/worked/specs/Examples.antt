@@ -9,7 +9,7 @@
 -- Assumes nothing.
 use Rattle.std.specs.Prelude.{◌≡◌, ℕ, zero, suc, Bool, cond, ◌&&◌, List, [], ◌∷◌, ◌++◌, map, ℤ, pos, negsuc, ◌==◌, nat_eq, nat_lt, slice_index, refl}
 use Rattle.std.proofs.Common.{lit<, lit≤}
-use Rattle.std.specs.List.{AllByRecursion as All}
+use Rattle.std.specs.List.{AllByRecursion}
 use Rattle.levels.specs.Rings.{inverse}
 use Rattle.levels.specs.Residues.{residues}
 use Rattle.levels.specs.Polynomials.{polynomials}
@@ -99,4 +99,4 @@ table =
     []
 
 abbrev pub Tabulated : Type 0
-Tabulated = All (λ r. r.computed ≡ r.expected) table
+Tabulated = AllByRecursion (λ r. r.computed ≡ r.expected) table

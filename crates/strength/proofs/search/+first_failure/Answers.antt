@@ -1,5 +1,5 @@
 use Rattle.std.proofs.Common.{◌≡◌, ℕ, ◌+◌, ◌<◌, ◌≤◌, map, length, take, set, None, sym, refl, ◌∙◌, subst, arith, length-set, rules}
-use Rattle.std.specs.List.{AllByRecursion as All}
+use Rattle.std.specs.List.{AllByRecursion}
 use Rattle.std.proofs.ByRecursion.{All-weaker}
 use Rattle.std.proofs.lemmas.List.{take_all, take_more_set}
 use Rattle.strength.specs.Verdicts.{Rising}
@@ -16,7 +16,7 @@ failure_at-requires g t c =
       accepted = c.requires.accepted;
       choice = record {
         many = c.requires.sized;
-        below = All-weaker (λ k. k < c.args.low) (λ k. k < Q.factors) (λ k h. omega (arith, c.requires.room)) xs (subst (All (λ k. k < c.args.low)) all c.requires.below);
+        below = All-weaker (λ k. k < c.args.low) (λ k. k < Q.factors) (λ k h. omega (arith, c.requires.room)) xs (subst (AllByRecursion (λ k. k < c.args.low)) all c.requires.below);
         rising = subst Rising all c.requires.rising;
       };
       clear = c.requires.clear;
@@ -81,7 +81,7 @@ first_failure-requires-2 g t c κs within =
     let before = c.in_default.ensures in
     let front : take k ys ≡ take k xs = front_kept xs ys k low before.chosen in
     let rising : Rising (take k ys) = subst Rising (sym front) c.requires.rising in
-    let under : All (λ i. i < low + 1) (take k ys) = subst (All (λ i. i < low + 1)) (sym front) (All-weaker (λ i. i < low) (λ i. i < low + 1) (λ i h. omega arith) (take k xs) c.requires.below) in
+    let under : AllByRecursion (λ i. i < low + 1) (take k ys) = subst (AllByRecursion (λ i. i < low + 1)) (sym front) (All-weaker (λ i. i < low) (λ i. i < low + 1) (λ i h. omega arith) (take k xs) c.requires.below) in
     let room : low + 1 ≤ c.args.claim.factors = omega arith in
     search rules
 

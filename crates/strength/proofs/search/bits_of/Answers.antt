@@ -1,12 +1,12 @@
 use Rattle.std.proofs.Common.{◌≡◌, ℕ, ◌+◌, ◌*◌, ◌%◌, ◌^◌, ◌<◌, ◌≤◌, List, length, get_or, take, sum_by, sym, ap, ◌∙◌, arith, pow_mono}
-use Rattle.std.specs.List.{AllByRecursion as All}
+use Rattle.std.specs.List.{AllByRecursion}
 use Rattle.std.proofs.lemmas.Nat.{one_shl}
 use Rattle.std.proofs.ByRecursion.{All-get_or, All-weaker, sum_by_le}
 use Rattle.std.proofs.lemmas.List.{take_all}
 use Rattle.std.proofs.lemmas.List.Sums.{sum_by_more, sum_by-take-le}
 use Rattle.strength.proofs.search.bits_of.Goals as goal
 
-module _ (xs : List ℕ) (long : length xs ≤ 17) (low : All (λ c. c < 17) xs) where
+module _ (xs : List ℕ) (long : length xs ≤ 17) (low : AllByRecursion (λ c. c < 17) xs) where
   column : (k : ℕ) → k < length xs → get_or xs k 0 < 17
   column k h = All-get_or (λ c. c < 17) xs k 0 h low
 
