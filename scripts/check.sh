@@ -8,16 +8,13 @@ if [ $# -gt 1 ]; then
     exit 2
 fi
 [ $# -eq 0 ] || exec <"$1"
-cd "$(dirname "${BASH_SOURCE[0]}")/.."
-program=target/bin/table_check
-if [ ! -x "$program" ]; then
+scripts=$(dirname "${BASH_SOURCE[0]}")
+if [ ! -x "$scripts/../crates/table_check/out/table_check" ]; then
     # what writes the table may be building a program too, and is done first
     table=$(mktemp)
-    log=$(mktemp)
-    trap 'rm -f "$table" "$log"' EXIT
+    trap 'rm -f "$table"' EXIT
     cat >"$table"
-    echo "proving and building the checking program, some minutes the first time .." >&2
-    rt check table_check >"$log" 2>&1 || { tail -n 20 "$log" >&2; exit 1; }
     exec <"$table"
 fi
+program=$("$scripts/build.sh" table_check </dev/null)
 "$program"

@@ -16,15 +16,12 @@ remembers() { # PROGRAM FILE
 }
 
 for program in strip_listing strip_trial table_check; do
-    if [ ! -x "target/bin/$program" ]; then
-        echo "evidence: no program at target/bin/$program: run the gate first"
-        exit 2
-    fi
-    SEED=$((RANDOM * 32768 + RANDOM)) scripts/compare.sh "${program##*_}" "target/bin/$program" "$count" || failed=1
+    built=$(scripts/build.sh "$program") || exit 2
+    SEED=$((RANDOM * 32768 + RANDOM)) scripts/compare.sh "${program##*_}" "$built" "$count" || failed=1
     for input in examples/*.txt examples/arrays/*.txt /dev/null; do
-        remembers "target/bin/$program" "$input"
+        remembers "$built" "$input"
     done
-    scripts/any-bytes.py "target/bin/$program" 10000 || failed=1
+    scripts/any-bytes.py "$built" 10000 || failed=1
 done
 [ "$failed" -eq 0 ] && echo "evidence: nothing found"
 exit "$failed"
