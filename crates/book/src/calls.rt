@@ -5,7 +5,7 @@ ghost use Rattle.book.specs.Calls.{len_of};
 use refusal::Slip;
 
 // A call with its arguments; `len` is the length of the memory handed in.
-#[derive(Clone, Copy)]
+#[derive(Clone, Copy, Debug, PartialEq, Eq)]
 pub enum Call {
     Take { len: usize },
     Mark { len: usize, label: u32, grade: u32 },
@@ -29,7 +29,7 @@ impl Call {
     }
 }
 
-#[derive(Clone, Copy)]
+#[derive(Clone, Copy, Debug, PartialEq, Eq)]
 pub enum Answer {
     // take: the label
     Took(u32),

@@ -4,7 +4,7 @@ ghost use Rattle.book.specs.Faults.{book_slip};
 
 use refusal::{Fault, Layer, Slip};
 
-#[derive(Clone, Copy)]
+#[derive(Clone, Copy, Debug, PartialEq, Eq)]
 pub enum BookFault {
     // the words handed in are not N
     Words,

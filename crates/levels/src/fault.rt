@@ -3,7 +3,7 @@ ghost use Rattle.levels.specs.Faults.{told};
 
 use refusal::{Fault, Layer, Slip};
 
-#[derive(Clone, Copy, Debug)]
+#[derive(Clone, Copy, Debug, PartialEq, Eq)]
 pub enum ArithmeticFault {
     Unserved,
 }

@@ -10,7 +10,7 @@ use refusal::{Fault, Layer, Slip};
 use std::alloc::AllocError;
 use strip::fault::StripFault;
 
-#[derive(Clone, Copy)]
+#[derive(Clone, Copy, Debug, PartialEq, Eq)]
 pub enum ListingFault {
     // the input line is malformed
     Malformed,
@@ -61,7 +61,7 @@ impl From<StripFault> for ListingFault {
 }
 
 // Why a line was not appended: want of memory, or a refusal.
-#[derive(Clone, Copy)]
+#[derive(Clone, Copy, Debug, PartialEq, Eq)]
 pub enum LineFault {
     Memory,
     Refused(ListingFault),

@@ -4,7 +4,7 @@ ghost use Rattle.plan.specs.Faults.{plan_slip};
 
 use refusal::{Fault, Layer, Slip};
 
-#[derive(Clone, Copy)]
+#[derive(Clone, Copy, Debug, PartialEq, Eq)]
 pub enum PlanFault {
     // s is outside 2 to 16
     Levels,

@@ -1,7 +1,7 @@
 // What is claimed of a table, and what the checker answers.
 
 // An orthogonal array of so many runs and factors, in levels 0 to `levels` - 1, of this strength.
-#[derive(Clone, Copy)]
+#[derive(Clone, Copy, Debug, PartialEq, Eq)]
 pub struct Claim {
     pub levels: u32,
     pub strength: u32,
@@ -10,7 +10,7 @@ pub struct Claim {
 }
 
 // Where a table first fails.
-#[derive(Clone, Copy)]
+#[derive(Clone, Copy, Debug, PartialEq, Eq)]
 pub struct Failure {
     // bit k is set for column k
     pub columns: u32,
@@ -20,7 +20,7 @@ pub struct Failure {
     pub count: u32,
 }
 
-#[derive(Clone, Copy)]
+#[derive(Clone, Copy, Debug, PartialEq, Eq)]
 pub enum Verdict {
     // an orthogonal array: any combination of levels at `strength` columns comes `index` times
     Yes { index: u32 },

@@ -3,7 +3,7 @@ ghost use Rattle.strength.specs.Faults.{checker_slip};
 
 use refusal::{Fault, Layer, Slip};
 
-#[derive(Clone, Copy)]
+#[derive(Clone, Copy, Debug, PartialEq, Eq)]
 pub enum CheckerFault {
     // levels outside 2 to 16
     Levels,

@@ -3,7 +3,7 @@ use plan::shape::Plan;
 use strength::cell::Levelled;
 
 // A level, and the fine setting within it.
-#[derive(Clone, Copy)]
+#[derive(Clone, Copy, Debug, PartialEq, Eq)]
 pub struct Cell {
     pub level: u8,
     pub fine: u16,

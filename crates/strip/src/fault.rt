@@ -4,7 +4,7 @@ ghost use Rattle.strip.specs.Faults.{strip_slip};
 
 use refusal::{Fault, Layer, Slip};
 
-#[derive(Clone, Copy)]
+#[derive(Clone, Copy, Debug, PartialEq, Eq)]
 pub enum StripFault {
     // the arithmetic's count is not the plan's
     Count,

@@ -7,7 +7,7 @@ use book::fault::BookFault;
 use refusal::{Fault, Layer, Slip};
 use strip::fault::StripFault;
 
-#[derive(Clone, Copy)]
+#[derive(Clone, Copy, Debug, PartialEq, Eq)]
 pub enum EffectFault {
     // the arithmetic's count is not the plan's
     Strip(StripFault),

@@ -21,7 +21,7 @@ pub enum Question {
     },
 }
 
-#[derive(Clone, Copy)]
+#[derive(Clone, Copy, Debug, PartialEq, Eq)]
 pub enum Reply {
     // to find and locate
     Label(Result<u32, StripFault>),
