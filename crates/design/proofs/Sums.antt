@@ -1,8 +1,7 @@
 -- The laws of finite sums. Assumes nothing.
-use Rattle.std.proofs.Common.{◌≡◌, ℕ, zero, suc, ◌*◌, ◌<◌, ◌≤◌, cond, eqb, ℤ, pos, ◌+ℤ◌, ◌-ℤ◌, ◌*ℤ◌, neg_ℤ, sym, refl, ap, ◌∙◌, arith}
-use native.Mathlib.Decide.{ℕ_discrete}
+use Rattle.std.proofs.Common.{◌≡◌, ℕ, zero, suc, ◌*◌, ◌<◌, ◌≤◌, cond, eqb, ℤ, pos, ◌+ℤ◌, ◌-ℤ◌, ◌*ℤ◌, neg_ℤ, sym, refl, ap, ◌∙◌, ⊎_elim, arith}
 use borrow.Author.Differences.{ints, up, down, sum_is_lem, neg_is}
-use Rattle.std.proofs.lemmas.Bool.{eq-eqb, ne_eqb}
+use Rattle.std.proofs.lemmas.Bool.{eq-eqb, ne_eqb, cases_eq}
 use Rattle.design.specs.Sums.{sum_to, only, Inverse}
 use Rattle.design.specs.Claims.{SumLaws}
 
@@ -63,11 +62,7 @@ except_other c a x n = rw (ne_eqb c a n)
 
 -- a number is k or is not
 pub by_eq : {P : Type 0} (c a : ℕ) → (c ≡ a → P) → ((c ≡ a → ⊥) → P) → P
-by_eq {P} c a f g = go (ℕ_discrete c a)
-  where
-    go : Dec (c ≡ a) → P
-    go (yes e) = f e
-    go (no n) = g n
+by_eq c a f g = ⊎_elim f g (cases_eq c a)
 
 -- no place below n is k
 sum_none : (n k : ℕ) (g : ℕ → ℤ) → n ≤ k → sum_to n (λ i. only i k (g i)) ≡ pos 0

@@ -8,11 +8,10 @@ use Rattle.std.proofs.Math.Nat.{mod-mod, mod-eq_of_lt}
 use Rattle.std.proofs.Math.Dec.{eqb→eq, ltb→lt}
 use Rattle.levels.specs.Counts.{binary_counts, binary_serves}
 use Rattle.levels.specs.Rings.{Arithmetic, RingLaws, inverse}
-use Rattle.levels.specs.Tables.{entry}
-use Rattle.levels.specs.Polynomials.{multiplied, divided, degree, remainder, modulus_of, polynomials}
+use Rattle.levels.specs.Polynomials.{Remainder, multiplied, divided, degree, remainder, modulus_of, polynomials}
 use Rattle.levels.specs.Below.{all_below, at, all_of, at_of}
 use Rattle.levels.specs.Inverse.{inverse_mod, all_units}
-use Rattle.levels.specs.PolynomialsLemmas.{term, partial, partial_remainder}
+use Rattle.levels.specs.PolynomialsLemmas.{shift, term, partial, z_below, shift_remainder, partial_remainder, remainder_below, remainder_stands}
 
 -- the product by the steps
 abbrev times : ℕ → ℕ → ℕ → ℕ
@@ -41,22 +40,29 @@ module _ (s : ℕ) (h : binary_serves s ≡ true) where
   high : s ≤ 16
   high = leb→le s 16 (at_count (λ s. nat_le s 16) tt)
 
-  below : (a : ℕ) → a % s < s
+  pub below : (a : ℕ) → a % s < s
   below a = mod-lt a (omega (arith, low))
 
-  pub modulus_low : 4 ≤ modulus_of s
+  modulus_low : 4 ≤ modulus_of s
   modulus_low = leb→le 4 (modulus_of s) (at_count (λ s. nat_le 4 (modulus_of s)) tt)
 
-  pub modulus_high : modulus_of s < 32
+  modulus_high : modulus_of s < 32
   modulus_high = ltb→lt (modulus_of s) 32 (at_count (λ s. nat_lt (modulus_of s) 32) tt)
 
-  pub modulus_degree : 2 ^ degree (modulus_of s) ≡ s
+  modulus_degree : 2 ^ degree (modulus_of s) ≡ s
   unfolding degree
   modulus_degree = eqb→eq (2 ^ degree (modulus_of s)) s (at_count (λ s. nat_eq (2 ^ degree (modulus_of s)) s) tt)
 
   -- a code is below the modulus
-  pub code_below : (a : ℕ) → a % s < 2 ^ degree (modulus_of s)
+  code_below : (a : ℕ) → a % s < 2 ^ degree (modulus_of s)
   code_below a = subst (λ z. a % s < z) (sym modulus_degree) (below a)
+
+  -- one step of shift-and-add multiplies a code by z, and gives a code
+  pub shifted : (a : ℕ) → a < s → shift (modulus_of s) a ≡ remainder (modulus_of s) a 2
+  shifted a k = shift_remainder (modulus_of s) modulus_low modulus_high a (subst (λ z. a < z) (sym modulus_degree) k)
+
+  pub shifted_below : (a : ℕ) → a < s → remainder (modulus_of s) a 2 < s
+  shifted_below a k = subst (λ z. remainder (modulus_of s) a 2 < z) modulus_degree (remainder_below (modulus_of s) modulus_low modulus_high a 2 (subst (λ z. a < z) (sym modulus_degree) k) (z_below (modulus_of s) modulus_low modulus_high))
 
   -- tests over one, two and three codes
   at_one : (f : ℕ → ℕ → Bool) → T (all_of binary_counts (λ s. all_below s (f s))) → (a : ℕ) → T (f s (a % s))
@@ -92,8 +98,11 @@ module _ (s : ℕ) (h : binary_serves s ≡ true) where
   }
 
   -- at every two numbers the steps give the product
-  times_product : (a b : ℕ) → times s (a % s) (b % s) ≡ remainder (modulus_of s) (a % s) (b % s)
+  pub times_product : (a b : ℕ) → times s (a % s) (b % s) ≡ remainder (modulus_of s) (a % s) (b % s)
   times_product a b = partial_remainder (modulus_of s) modulus_low modulus_high (a % s) (b % s) (code_below a) (code_below b)
+
+  pub product_stands : (a b : ℕ) → Remainder (modulus_of s) (a % s) (b % s) (remainder (modulus_of s) (a % s) (b % s))
+  product_stands a b = remainder_stands (modulus_of s) modulus_low modulus_high (a % s) (b % s) (code_below a) (code_below b)
 
   pub polynomial_laws : RingLaws (polynomials s)
   polynomial_laws = subst (λ product. RingLaws (stepped s product)) (λ i a b. times_product a b i) stepped_laws
@@ -103,6 +112,5 @@ module _ (s : ℕ) (h : binary_serves s ≡ true) where
   polynomial_units = at_count (λ s. all_units (polynomials s)) tt
 
   -- a table of the inverses of every code, read at the place for a number
-  pub polynomial_inverse : (xs : List ℕ) (r a : ℕ) → r ≡ entry xs (s - 4 + a % s) → T (inverses_right xs) → r ≡ inverse (polynomials s) a
-  unfolding entry
+  pub polynomial_inverse : (xs : List ℕ) (r a : ℕ) → r ≡ slice_index xs (s - 4 + a % s) → T (inverses_right xs) → r ≡ inverse (polynomials s) a
   polynomial_inverse xs r a e t = e ∙ eqb→eq (slice_index xs (s - 4 + a % s)) (inverse (polynomials s) (a % s)) (at_one (λ s a. nat_eq (slice_index xs (s - 4 + a)) (inverse (polynomials s) a)) t a) ∙ sym (inverse_mod polynomial_laws a)

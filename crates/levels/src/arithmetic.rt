@@ -3,9 +3,6 @@
 ghost use Rattle.std.specs.Prelude.{◌≡◌, ℕ};
 ghost use Rattle.levels.specs.Rings.{Arithmetic, RingLaws, Inverts};
 
-// The code called one in every arithmetic of this crate.
-pub(crate) const ONE: u32 = 1;
-
 pub trait Ring {
     ghost ring: { Self → Arithmetic };
 

@@ -1,16 +1,15 @@
 // Polynomials with coefficients modulo 2, at the counts 4, 8 and 16, each of which divides.
 // Bit k of a code is the coefficient of z^k.
-ghost use Rattle.std.specs.Prelude.{◌≡◌, ◌%◌, ◌^◌, ◌<◌, ◌≤◌, true};
+ghost use Rattle.std.specs.Prelude.{◌≡◌, ◌%◌, ◌<◌, true};
 ghost use Rattle.refusal.specs.Table.{Answers};
 ghost use Rattle.levels.specs.Counts.{binary_serves, unserved};
 ghost use Rattle.levels.specs.Faults.{told};
-ghost use Rattle.levels.specs.Polynomials.{degree, remainder, Remainder, modulus_of, polynomials};
+ghost use Rattle.levels.specs.Polynomials.{remainder, Remainder, modulus_of, polynomials};
 ghost use Rattle.levels.specs.Rings.{inverse as inverse_in};
 ghost use Rattle.levels.specs.PolynomialRing.{polynomial_laws};
 
-use crate::arithmetic::{Dividing, ONE, Ring};
+use crate::arithmetic::{Dividing, Ring};
 use crate::fault::ArithmeticFault;
-use crate::table::entry;
 
 // The inverse of each code, and 0 at 0, of each count.
 const INVERSES: [u8; 28] = [
@@ -32,6 +31,27 @@ impl Binary {
             _ => Err(ArithmeticFault::Unserved),
         }
     }
+
+    // z² + z + 1, z³ + z + 1 or z⁴ + z + 1.
+    fn modulus(&self) -> u32
+        ensures { result ≡ modulus_of self.now.count }
+    {
+        match self.count {
+            4 => 0b111,
+            8 => 0b1011,
+            _ => 0b10011,
+        }
+    }
+
+    // The product of a code and z: of 2a and 2a less the modulus the one of smaller degree.
+    fn times_z(&self, a: u32) -> u32
+        requires { a < self.now.count }
+        ensures value { result ≡ remainder (modulus_of self.now.count) a 2 }
+        ensures below { result < self.now.count }
+    {
+        let twice = a * 2;
+        twice.min(twice ^ self.modulus())
+    }
 }
 
 impl Ring for Binary {
@@ -44,7 +64,7 @@ impl Ring for Binary {
     }
 
     fn one(&self) -> u32 {
-        ONE
+        1
     }
 
     fn sum(&self, a: u32, b: u32) -> u32 {
@@ -55,11 +75,22 @@ impl Ring for Binary {
         self.sum(a, b)
     }
 
+    // Shift-and-add over the terms of b: the term is a times z^k.
     fn product(&self, a: u32, b: u32) -> u32
         ensures value { result ≡ (polynomials self.now.count).product a b }
         ensures remainder { Remainder (modulus_of self.now.count) (a % self.now.count) (b % self.now.count) result }
     {
-        multiply(modulus_of(self.count), a % self.count, b % self.count)
+        let factor = b % self.count;
+        let mut term = a % self.count;
+        let mut sum = 0;
+        // Kept: k is a bit's number, and the term goes along with the sum: a fold over pairs is no plainer.
+        for k in 0..4u32 {
+            if (factor >> k) % 2 == 1 {
+                sum ^= term;
+            }
+            term = self.times_z(term);
+        }
+        sum
     }
 }
 
@@ -67,49 +98,6 @@ impl Dividing for Binary {
     ghost inverse = { λ p. inverse_in (polynomials p.count) };
 
     fn inverse(&self, a: u32) -> u32 {
-        entry(&INVERSES, self.count - 4 + a % self.count)
+        u32::from(INVERSES[(self.count - 4 + a % self.count) as usize])
     }
-}
-
-// z² + z + 1, z³ + z + 1 or z⁴ + z + 1.
-fn modulus_of(count: u32) -> u32
-    ensures value { result ≡ modulus_of count }
-{
-    match count {
-        4 => 0b111,
-        8 => 0b1011,
-        _ => 0b10011,
-    }
-}
-
-// The remainder by the modulus, of degree 2 to 4, of the product of two polynomials of smaller degree.
-fn multiply(modulus: u32, a: u32, b: u32) -> u32
-    requires low { 4 ≤ modulus }
-    requires high { modulus < 32 }
-    requires first { a < 2 ^ degree modulus }
-    requires second { b < 2 ^ degree modulus }
-    ensures value { result ≡ remainder modulus a b }
-    ensures remainder { Remainder modulus a b result }
-{
-    let mut sum = 0;
-    let mut term = a;
-    for k in 0..4u32 {
-        if (b >> k) % 2 == 1 {
-            sum ^= term;
-        }
-        term = times_z(modulus, term);
-    }
-    sum
-}
-
-// The same with z as the second factor: of 2a and 2a less the modulus the one of smaller degree.
-fn times_z(modulus: u32, a: u32) -> u32
-    requires low { 4 ≤ modulus }
-    requires high { modulus < 32 }
-    requires first { a < 2 ^ degree modulus }
-    ensures value { result ≡ remainder modulus a 2 }
-    ensures below { result < 2 ^ degree modulus }
-{
-    let twice = a * 2;
-    twice.min(twice ^ modulus)
 }

@@ -33,6 +33,7 @@ impl AnyRing {
     }
 }
 
+// Kept: no function may hand out a `dyn Ring`, and no closure is generic over rings, so each operation names the three.
 impl Ring for AnyRing {
     ghost ring = { meaning };
 

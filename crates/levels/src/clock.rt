@@ -6,7 +6,7 @@ ghost use Rattle.levels.specs.Faults.{told};
 ghost use Rattle.levels.specs.Residues.{residues};
 ghost use Rattle.levels.specs.Modular.{clock_laws};
 
-use crate::arithmetic::{ONE, Ring};
+use crate::arithmetic::Ring;
 use crate::fault::ArithmeticFault;
 
 #[derive(Clone, Copy)]
@@ -15,6 +15,7 @@ pub struct Clock {
     ghost served: { clock_serves count ≡ true },
 }
 
+// Kept: the three types have a `new` each, since each has counts of its own as its invariant: a common one would take the test and the type.
 impl Clock {
     pub fn new(count: u32) -> Result<Clock, ArithmeticFault>
         ensures answer { Answers told (unserved (clock_serves count)) (λ v. v.count ≡ count) result }
@@ -36,7 +37,7 @@ impl Ring for Clock {
     }
 
     fn one(&self) -> u32 {
-        ONE
+        1
     }
 
     fn sum(&self, a: u32, b: u32) -> u32 {

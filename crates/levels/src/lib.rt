@@ -7,7 +7,6 @@ pub mod choice;
 pub mod clock;
 pub mod fault;
 pub mod listed;
-mod table;
 
 #[cfg(test)]
 mod tests {
@@ -38,13 +37,8 @@ mod tests {
     }
 
     #[test]
-    fn refused(rt: HostRuntime) -> Result<(), Fail> {
-        match AnyRing::of(17) {
-            Ok(_) => Err(Fail::new("served")),
-            Err(fault) => {
-                assert_eq!(rt; fault.slip().number, 1);
-                Ok(())
-            },
-        }
+    fn refused(rt: HostRuntime) {
+        let number = AnyRing::of(17).err().map(|fault| fault.slip().number);
+        assert_eq!(rt; number, Some(1));
     }
 }

@@ -1,5 +1,5 @@
 // Residues read from tables, at the counts 2, 3, 5, 7, 11 and 13, each of which divides.
-ghost use Rattle.std.specs.Prelude.{◌≡◌, ◌<◌, true};
+ghost use Rattle.std.specs.Prelude.{◌≡◌, ◌%◌, ◌<◌, true};
 ghost use Rattle.refusal.specs.Table.{Answers};
 ghost use Rattle.levels.specs.Counts.{listed_serves, unserved};
 ghost use Rattle.levels.specs.Faults.{told};
@@ -8,9 +8,8 @@ ghost use Rattle.levels.specs.Rings.{inverse as inverse_in};
 ghost use Rattle.levels.specs.Tables.{row_of};
 ghost use Rattle.levels.specs.Modular.{listed_laws};
 
-use crate::arithmetic::{Dividing, ONE, Ring};
+use crate::arithmetic::{Dividing, Ring};
 use crate::fault::ArithmeticFault;
-use crate::table::{cell, code, entry};
 
 // Each table has a row for each code of each count, 2, 3, 5, 7, 11 and 13. Rows shorter than 13 end in zeros.
 const SUMS: [[u8; 13]; 41] = [
@@ -167,13 +166,25 @@ impl Listed {
         }
     }
 
+    // The code of a number. Most numbers are codes already, and a comparison is quicker than a division.
+    fn code(&self, a: u32) -> usize
+        ensures value { result ≡ a % self.now.count }
+        ensures below { result < 13 }
+    {
+        if a < self.count {
+            a as usize
+        } else {
+            (a % self.count) as usize
+        }
+    }
+
     // The row of a number.
-    fn row(&self, a: u32) -> u32
+    fn row(&self, a: u32) -> usize
         ensures value { result ≡ row_of self.now.count a }
         ensures below { result < 41 }
     {
-        let s = self.count;
-        let start = match s {
+        // Kept: a table for each count in place of these starts would be five constants more for each operation.
+        let start = match self.count {
             2 => 0,
             3 => 2,
             5 => 5,
@@ -181,7 +192,7 @@ impl Listed {
             11 => 17,
             _ => 28,
         };
-        start + code(s, a)
+        start + self.code(a)
     }
 }
 
@@ -195,19 +206,19 @@ impl Ring for Listed {
     }
 
     fn one(&self) -> u32 {
-        ONE
+        1
     }
 
     fn sum(&self, a: u32, b: u32) -> u32 {
-        cell(&SUMS, self.row(a), code(self.count, b))
+        u32::from(SUMS[self.row(a)][self.code(b)])
     }
 
     fn difference(&self, a: u32, b: u32) -> u32 {
-        cell(&DIFFERENCES, self.row(a), code(self.count, b))
+        u32::from(DIFFERENCES[self.row(a)][self.code(b)])
     }
 
     fn product(&self, a: u32, b: u32) -> u32 {
-        cell(&PRODUCTS, self.row(a), code(self.count, b))
+        u32::from(PRODUCTS[self.row(a)][self.code(b)])
     }
 }
 
@@ -215,6 +226,6 @@ impl Dividing for Listed {
     ghost inverse = { λ l. inverse_in (residues l.count) };
 
     fn inverse(&self, a: u32) -> u32 {
-        entry(&INVERSES, self.row(a))
+        u32::from(INVERSES[self.row(a)])
     }
 }

@@ -7,12 +7,5 @@ ghost use Rattle.std.specs.Prelude.{◌≡◌, ◌^◌, ◌<◌, ◌≤◌, Matc
 pub fn power(base: u32, exponent: u32) -> Option<u32>
     ensures { MatchOption result (65536 < base ^ exponent) (λ n. (n ≡ base ^ exponent) × (n ≤ 65536)) }
 {
-    let mut n: u64 = 1;
-    for _k in 0..exponent {
-        n *= base as u64;
-        if n > 65536 {
-            return None;
-        }
-    }
-    Some(n as u32)
+    base.checked_pow(exponent).filter(|n| *n <= 65536)
 }

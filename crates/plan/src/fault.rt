@@ -4,33 +4,27 @@ ghost use Rattle.plan.specs.Faults.{plan_slip};
 
 use refusal::{Fault, Layer, Slip};
 
+// Each variant's number is its row in the refusal table.
 #[derive(Clone, Copy, Debug, PartialEq, Eq)]
 pub enum PlanFault {
     // s is outside 2 to 16
-    Levels,
+    Levels = 1,
     // d is 0 or above s
-    Factors,
+    Factors = 2,
     // t is 0 or above d
-    Strength,
+    Strength = 3,
     // t is 2 or more, and no arithmetic of s levels divides
-    Undivided,
+    Undivided = 4,
     // s^t is above 65,536
-    Labels,
+    Labels = 5,
 }
 
 impl Fault for PlanFault {
     ghost tells = { plan_slip };
 
     fn slip(&self) -> Slip {
-        let number = match self {
-            PlanFault::Levels => 1,
-            PlanFault::Factors => 2,
-            PlanFault::Strength => 3,
-            PlanFault::Undivided => 4,
-            PlanFault::Labels => 5,
-        };
         Slip {
-            number,
+            number: *self as u8,
             layer: Layer::Plan,
             place: 0,
         }

@@ -12,7 +12,7 @@ impl Plan {
     pub fn new(levels: u32, strength: u32, factors: u32, seed: u32) -> Result<Plan, PlanFault>
         ensures { Answers plan_slip (plan_rows levels strength factors) (Planned levels strength factors seed) result }
     {
-        if levels < 2 || levels > 16 {
+        if !(2..=16).contains(&levels) {
             return Err(PlanFault::Levels);
         }
         if factors == 0 || factors > levels {
@@ -24,16 +24,14 @@ impl Plan {
         if strength >= 2 && is_undivided(levels) {
             return Err(PlanFault::Undivided);
         }
-        match power(levels, strength) {
-            Some(labels) => Ok(Plan {
-                levels,
-                strength,
-                factors,
-                seed,
-                labels,
-            }),
-            None => Err(PlanFault::Labels),
-        }
+        let labels = power(levels, strength).ok_or(PlanFault::Labels)?;
+        Ok(Plan {
+            levels,
+            strength,
+            factors,
+            seed,
+            labels,
+        })
     }
 }
 

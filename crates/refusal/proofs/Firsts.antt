@@ -1,16 +1,10 @@
 -- The first row that holds is the one of the smallest number, where the numbers rise. Assumes nothing.
-use Rattle.std.proofs.Common.{◌≡◌, ℕ, ◌<◌, Bool, true, false, List, [], ◌∷◌, Some, None, sym, refl, ap, subst, inl, inr, ⊎_elim, arith}
+use Rattle.std.proofs.Common.{◌≡◌, ℕ, ◌<◌, true, false, List, [], ◌∷◌, Some, None, refl, ap, subst, inl, inr, ⊎_elim, arith}
 use Rattle.std.specs.List.{AllByRecursion}
 use Rattle.std.proofs.lemmas.Bool.{cases_Bool}
 use Rattle.refusal.specs.declared.Slip.{Slip}
 use Rattle.refusal.specs.Table.{Row, refusal}
 use Rattle.refusal.specs.Laws.{Rising, Holds, Given}
-
-clash : {x : Slip} → Some x ≡ None → ⊥
-clash e = let z : ◌≡◌ {A = ℕ} 0 1 = cc in omega arith
-
-opposite : {b : Bool} → b ≡ true → b ≡ false → ⊥
-opposite e f = let z : ◌≡◌ {A = ℕ} 0 1 = cc in omega arith
 
 -- rows above a number are none of the smaller ones
 pub none_smaller : (rs : List Row) (n : ℕ) → AllByRecursion (λ q. n < q.slip.number) rs → AllByRecursion (λ q. q.slip.number < n → q.holds ≡ false) rs
@@ -24,7 +18,7 @@ held_above (r ∷ rs) n s h (inl k) = subst (λ (x : Slip). n < x.number) k.0 h.
 held_above (r ∷ rs) n s h (inr k) = held_above rs n s h.1 k
 
 pub given_only : (rows : List Row) → Rising rows → (s : Slip) → refusal rows ≡ Some s → Given rows s
-given_only [] ri s e = absurd (clash (sym e))
+given_only [] ri s e = cc
 given_only (r ∷ rs) ri s e = ⊎_elim here (λ f. later f (given_only rs ri.1 s (rw f at e))) (cases_Bool r.holds)
   where
     here : r.holds ≡ true → Given (r ∷ rs) s
@@ -53,7 +47,7 @@ given_always (r ∷ rs) ri s g = ⊎_elim here (λ k. later k (given_always rs r
 pub none_only : (rows : List Row) → refusal rows ≡ None → AllByRecursion (λ q. q.holds ≡ false) rows
 none_only [] e = tt
 none_only (r ∷ rs) e =
-    ⊎_elim (λ t. absurd (clash (rw t at e))) (λ f. (f, none_only rs (rw f at e))) (cases_Bool r.holds)
+    ⊎_elim (λ t. let z = rw t at e in cc) (λ f. (f, none_only rs (rw f at e))) (cases_Bool r.holds)
 
 pub none_always : (rows : List Row) → AllByRecursion (λ q. q.holds ≡ false) rows → refusal rows ≡ None
 none_always [] h = refl

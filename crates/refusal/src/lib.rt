@@ -1,9 +1,12 @@
 // What every refusal tells: its number, the layer that found the fault, and a place. Rests on nothing.
 #![tactic(auto)]
 
-ghost use Rattle.std.specs.Prelude.{◌≡◌};
+ghost use Rattle.std.specs.Prelude.{◌≡◌, Some};
 ghost use Rattle.refusal.specs.declared.Slip.{Slip};
 ghost use Rattle.refusal.specs.Laws.{FirstRow, NoRow};
+ghost use Rattle.refusal.specs.Names.{layer_name};
+
+use std::fmt;
 
 // The part of the library whose call found the fault.
 #[derive(Clone, Copy, Debug, PartialEq, Eq)]
@@ -16,7 +19,23 @@ pub enum Layer {
     Listing,
 }
 
+impl fmt::Display for Layer {
+    ghost output = { λ layer. Some (layer_name layer) };
+
+    fn fmt<W: fmt::Write>(&self, f: &mut fmt::Formatter<W>) -> fmt::Result {
+        f.write_str(match self {
+            Layer::Arithmetic => "arithmetic",
+            Layer::Plan => "plan",
+            Layer::Strip => "strip",
+            Layer::Book => "book",
+            Layer::Checker => "checker",
+            Layer::Listing => "listing",
+        })
+    }
+}
+
 // A line of the refusal table as it is handed out. The place is 0 where the table names none.
+// Kept: a number for the row and 0 for no place, because the table's format has them so.
 #[derive(Clone, Copy, Debug, PartialEq, Eq)]
 pub struct Slip {
     pub number: u8,
@@ -34,9 +53,7 @@ pub trait Fault {
 
 // The table's reading: a slip is given exactly where its row holds and no row of a smaller number does,
 // and none is given exactly where no row holds.
-pub fn table_stands() -> u8
+pub fn table_stands()
     ensures given { FirstRow }
     ensures clear { NoRow }
-{
-    0
-}
+{}

@@ -23,6 +23,10 @@ module _ (key n : ℕ) (hk : key < 2 ^ 32) (h : 0 < n) (l : n ≤ 65536) where
   pub covers : n ≤ mask n + 1
   covers = omega (arith, mask_is n h l, (digits n h l).2)
 
+  -- the turn back leads below the size, and so under the mask
+  pub turned_under : (i : ℕ) → i < n → unturn key n i ≤ mask n
+  turned_under i hi = omega (arith, (turn_perm key n).g_lt i hi, covers)
+
   few : mask n + 1 ≤ 65536
   few = let p : 2 ^ ones.0 ≤ 65536 = pow_mono {j = 16} ones.1 in omega (arith, ones.2)
 

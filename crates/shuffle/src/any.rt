@@ -12,6 +12,7 @@ pub enum AnyShuffler {
     Hash,
 }
 
+// Kept: no function may hand out a `dyn Shuffler`, and no closure is generic over shufflers, so each way names the two.
 impl Shuffler for AnyShuffler {
     ghost ways = { ways_of };
 

@@ -4,14 +4,13 @@ use crate::hash::Hash;
 use crate::turn::Turn;
 use crate::{LARGEST, Shuffler};
 
-const LAST: u32 = 0xffffffff;
+const LAST: u32 = u32::MAX;
 
 #[test]
 fn examples(rt: HostRuntime) {
-    let four = [3, 1, 0, 2];
-    for i in 0..4u32 {
-        assert_eq!(rt; Hash.out(1, 4, i), four[i as usize]);
-        assert_eq!(rt; AnyShuffler::Hash.back(1, 4, four[i as usize]), i);
+    for (i, far) in (0..4).zip([3, 1, 0, 2]) {
+        assert_eq!(rt; Hash.out(1, 4, i), far);
+        assert_eq!(rt; AnyShuffler::Hash.back(1, 4, far), i);
     }
     for i in 0..3 {
         assert_eq!(rt; AnyShuffler::Hash.out(1, 3, i), i);

@@ -1,9 +1,10 @@
 // The turn: each number goes as far round as the key says.
-ghost use Rattle.std.specs.Prelude.{◌≡◌, ◌<◌, ◌≤◌};
+ghost use Rattle.std.specs.Prelude.{◌≡◌};
 ghost use Rattle.shuffle.specs.Keyed.{preimage, turn, turn_ways};
 ghost use Rattle.shuffle.specs.Lawful.{turn_laws};
 
-use crate::{LARGEST, Shuffler};
+use crate::Shuffler;
+use crate::point::Point;
 
 #[derive(Clone, Copy)]
 pub struct Turn;
@@ -14,39 +15,31 @@ impl Shuffler for Turn {
     ghost shuffles = { λ a. turn_laws };
 
     fn out(&self, key: u32, size: u32, number: u32) -> u32 {
-        if number < size && size <= LARGEST {
-            rotate(key, size, number)
-        } else {
-            number
-        }
+        Point::of(key, size, number).map_or(number, Point::rotate)
     }
 
     fn back(&self, key: u32, size: u32, number: u32) -> u32 {
-        if number < size && size <= LARGEST {
-            rotate_back(key, size, number)
-        } else {
-            number
-        }
+        Point::of(key, size, number).map_or(number, Point::rotate_back)
     }
 }
 
-// The sum is exact: it does not wrap at 2^32.
-pub(crate) fn rotate(key: u32, n: u32, i: u32) -> u32
-    requires { i < n }
-    ensures { result ≡ turn key n i }
-{
-    ((i as u64 + key as u64) % n as u64) as u32
-}
+impl Point {
+    // The sum is exact: it does not wrap at 2^32.
+    pub(crate) fn rotate(self) -> u32
+        ensures { result ≡ turn self.key self.size self.number }
+    {
+        ((u64::from(self.number) + u64::from(self.key)) % u64::from(self.size)) as u32
+    }
 
-// The number that `rotate` sends to i.
-pub(crate) fn rotate_back(key: u32, n: u32, i: u32) -> u32
-    requires { (i < n) × (n ≤ 65536) }
-    ensures { result ≡ preimage (turn key n) n i }
-{
-    let turned = key % n;
-    if i < turned {
-        i + (n - turned)
-    } else {
-        i - turned
+    // The number that `rotate` sends here.
+    pub(crate) fn rotate_back(self) -> u32
+        ensures { result ≡ preimage (turn self.key self.size) self.size self.number }
+    {
+        let turned = self.key % self.size;
+        if self.number < turned {
+            self.number + (self.size - turned)
+        } else {
+            self.number - turned
+        }
     }
 }

@@ -3,8 +3,6 @@
 
 ghost use Rattle.worked.specs.Examples.{Tabulated};
 
-pub fn tabulated() -> u8
+pub fn tabulated()
     ensures { Tabulated }
-{
-    0
-}
+{}

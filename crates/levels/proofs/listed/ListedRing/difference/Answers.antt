@@ -1,6 +1,6 @@
-use Rattle.std.proofs.Common.{sym, ◌∙◌}
 use Rattle.levels.specs.Residues.{residues}
 use Rattle.levels.specs.Modular.{listed_laws}
+use Rattle.levels.specs.declared.listed.TheConstants.{DIFFERENCES}
 use Rattle.levels.proofs.Stored.{cell_right}
 use Rattle.levels.proofs.listed.ListedRing.difference.Goals as goal
 
@@ -8,5 +8,6 @@ pub returns : goal.returns
 returns c =
     let s = c.args.self.now.count in
     let h = c.args.self.now.served in
-    let read = cell_right s h (λ s. (residues s).difference) _ _ _ _ c.args.a c.args.b c.cell.ensures.value c.row.ensures.value c.code.ensures.value tt in
-    record { value = read ∙ sym ((listed_laws s h).sub_mod c.args.a c.args.b) }
+    let a = c.args.a in
+    let b = c.args.b in
+    record { value = cell_right s h (λ s. (residues s).difference) DIFFERENCES _ _ _ a b c.from.ensures c.row.ensures.value c.code.ensures.value tt ((listed_laws s h).sub_mod a b) }
