@@ -1,9 +1,10 @@
 -- What a row of calls on a book keeps from turn to turn. Assumes nothing.
-use Rattle.std.proofs.Common.{◌≡◌, ℕ, zero, suc, ◌+◌, ◌<◌, ◌≤◌, false, List, [], ◌∷◌, ◌++◌, map, length, get_or, take, drop, replicate, sym, refl, ap, ◌∙◌, subst, arith, take-append-drop}
+use Rattle.std.proofs.Common.{◌≡◌, ℕ, zero, suc, ◌+◌, ◌<◌, ◌≤◌, false, List, [], ◌∷◌, ◌++◌, map, length, get_or, take, drop, replicate, sym, refl, ap, ◌∙◌, subst, arith, take-append-drop, Result}
 use Rattle.std.proofs.lemmas.List.{take_more, drop_more, take_all}
 use Rattle.plan.specs.declared.shape.Plan.{Plan}
 use Rattle.book.specs.declared.shape.Book.{Book}
 use Rattle.book.specs.declared.shape.Finished.{Finished}
+use Rattle.refusal.specs.declared.Slip.{Slip}
 use Rattle.book.specs.declared.calls.Call.{Call}
 use Rattle.book.specs.declared.calls.Answer.{Answer}
 use Rattle.book.specs.declared.row.Next.{Next}
@@ -19,7 +20,7 @@ use Rattle.book.proofs.Steps.{sized_opened, step_kept}
 use Rattle.book.proofs.Chains.{row_append, row_one, row_last, finishes_push}
 
 -- the book stands for the plain book that the first i calls leave, none of which ended the row
-pub record Playing (plan : Plan) (calls : List Call) (i : ℕ) (b : Book) (ws : List ℕ) (told : List Answer) : Type 0 where
+pub record Playing (plan : Plan) (calls : List Call) (i : ℕ) (b : Book) (ws : List ℕ) (told : List (Result Answer Slip)) : Type 0 where
   pub same : b.plan ≡ plan
   pub plain : Plain
   pub holds : Holds b ws plain
@@ -31,17 +32,21 @@ all_wait zero = refl
 all_wait (suc n) = ap (λ l. standing 0 ∷ l) (all_wait n)
 
 -- a newly opened book
-pub begins : (b : Book) (calls : List Call) (m : ℕ) (ws : List ℕ) (told : List Answer) → m ≡ b.plan.labels → b.cursor ≡ 0 → ws ≡ replicate m 0 → told ≡ [] → Playing b.plan calls 0 b ws told
-begins b calls m ws told em ec ew et =
+pub begins : (plan : Plan) (b : Book) (calls : List Call) (m : ℕ) (ws : List ℕ) (told : List (Result Answer Slip)) → b.plan ≡ plan → m ≡ plan.labels → b.cursor ≡ 0 → ws ≡ replicate m 0 → told ≡ [] → Playing plan calls 0 b ws told
+begins plan b calls m ws told same em ec ew et =
     record {
-      same = refl;
-      plain = opened b.plan.labels;
-      holds = record { sized = sized_opened b.plan.labels (omega arith); cursor = ec; words = ap standings (ew ∙ ap (λ n. replicate n 0) em) ∙ all_wait b.plan.labels };
-      row = subst (λ x. Row b.plan.labels (opened b.plan.labels) [] x (opened b.plan.labels)) (sym et) refl;
-      open_yet = ap finishes et;
+      same = same;
+      plain = opened plan.labels;
+      holds = record {
+        sized = rw same (sized_opened plan.labels (rw (← same) (omega arith)));
+        cursor = ec;
+        words = ap standings (ew ∙ ap (λ n. replicate n 0) em) ∙ all_wait plan.labels;
+      };
+      row = rw et refl;
+      open_yet = rw et refl;
     }
 
-module _ (plan : Plan) (calls : List Call) (i : ℕ) (b : Book) (ws : List ℕ) (told : List Answer) (now : Playing plan calls i b ws told) where
+module _ {plan : Plan} {calls : List Call} {i : ℕ} {b : Book} {ws : List ℕ} {told : List (Result Answer Slip)} (now : Playing plan calls i b ws told) where
   -- all calls are performed
   pub played : length calls ≤ i → Row plan.labels (opened plan.labels) calls told now.plain
   played h = subst (λ x. Row plan.labels (opened plan.labels) x told now.plain) (take_all i calls h) now.row
@@ -50,7 +55,7 @@ module _ (plan : Plan) (calls : List Call) (i : ℕ) (b : Book) (ws : List ℕ) 
   left = (now.open_yet, now.same, now.holds.cursor)
 
   -- d is any default: i is within the calls
-  module _ (d : Call) (within : i < length calls) (a : Answer) (next : Next) (vs : List ℕ) (told' : List Answer) (turn : (p : Plain) → Holds b ws p → Turned b.plan p (get_or calls i d) a next vs) (et : told' ≡ told ++ a ∷ []) where
+  module _ {a : Result Answer Slip} {next : Next} {vs : List ℕ} {told' : List (Result Answer Slip)} (d : Call) (within : i < length calls) (turn : (p : Plain) → Holds b ws p → Turned b.plan p (get_or calls i d) a next vs) (et : told' ≡ told ++ a ∷ []) where
     t : Turned b.plan now.plain (get_or calls i d) a next vs
     t = turn now.plain now.holds
 
@@ -60,8 +65,8 @@ module _ (plan : Plan) (calls : List Call) (i : ℕ) (b : Book) (ws : List ℕ) 
     pushed : finishes told' ≡ is_finished a
     pushed = ap finishes et ∙ finishes_push told a now.open_yet
 
-    pub goes_on : (b' : Book) → next ≡ Going b' → Playing plan calls (i + 1) b' vs told'
-    goes_on b' is =
+    pub goes_on : {b' : Book} → next ≡ Going b' → Playing plan calls (i + 1) b' vs told'
+    goes_on {b'} is =
         let on = subst (λ x. Leaves b.plan (is_finished a) x t.after) is t.next in
         let row = row_append plan.labels (opened plan.labels) now.plain t.after (take i calls) (get_or calls i d ∷ []) told (a ∷ []) now.row now.open_yet (row_one plan.labels now.plain t.after (get_or calls i d) a on.0 step) in
         record {
@@ -79,8 +84,8 @@ module _ (plan : Plan) (calls : List Call) (i : ℕ) (b : Book) (ws : List ℕ) 
     split : calls ≡ take i calls ++ get_or calls i d ∷ drop (i + 1) calls
     split = sym (take-append-drop i calls) ∙ ap (λ r. take i calls ++ r) (drop_more calls i d within)
 
-    pub ends : (f : Finished) → next ≡ Over f → (q : Plain) × Row plan.labels (opened plan.labels) calls told' q × Shows vs q × Leaves plan (finishes told') (Over f) q
-    ends f is =
+    pub ends : {f : Finished} → next ≡ Over f → (q : Plain) × Row plan.labels (opened plan.labels) calls told' q × Shows vs q × Leaves plan (finishes told') (Over f) q
+    ends {f} is =
         let over = subst (λ x. Leaves b.plan (is_finished a) x t.after) is t.next in
         let row = row_append plan.labels (opened plan.labels) now.plain t.after (take i calls) (get_or calls i d ∷ drop (i + 1) calls) told (a ∷ []) now.row now.open_yet (row_last plan.labels now.plain t.after (get_or calls i d) (drop (i + 1) calls) a over.0 step) in (
           t.after,

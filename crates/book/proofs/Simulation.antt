@@ -4,36 +4,29 @@ use lib.ListN.{length-map}
 use Rattle.std.proofs.lemmas.List.{map-set}
 use Rattle.std.proofs.lemmas.Bool.{cond-true, cond-false, ltb-false, le-leb, ne_eqb}
 use Rattle.refusal.specs.declared.Slip.{Slip}
-use Rattle.refusal.specs.Table.{refusal, Answers}
+use Rattle.refusal.specs.Table.{refusal}
 use Rattle.refusal.proofs.Firsts.{none_only}
 use Rattle.book.specs.declared.standing.Standing.{Standing}
 use Rattle.book.specs.declared.standing.Standing.TheVariants.{Graded}
-use Rattle.book.specs.declared.fault.BookFault.{BookFault}
+use Rattle.book.specs.declared.row.Next.TheVariants.{Going}
 use Rattle.book.specs.declared.shape.Book.{Book}
 use Rattle.book.specs.declared.calls.Call.{Call}
 use Rattle.book.specs.declared.calls.Call.TheVariants.{Take, Mark, Spoil, Strike, Finish}
 use Rattle.book.specs.declared.calls.Answer.{Answer}
-use Rattle.book.specs.declared.calls.Answer.TheVariants.{Took, Done, Finished, Refused}
+use Rattle.book.specs.declared.calls.Answer.TheVariants as answer
 use Rattle.book.specs.declared.deed.Deed.{Deed}
 use Rattle.book.specs.declared.deed.Deed.TheVariants as deed
-use Rattle.book.specs.Standings.{standing, standings}
-use Rattle.book.specs.Faults.{slip_of, book_slip}
+use Rattle.book.specs.Standings.{standing, standings, code}
+use Rattle.book.specs.Faults.{slip_of}
 use Rattle.book.specs.Calls.{len_of}
 use Rattle.book.specs.Deeds.{asked, made}
 use Rattle.book.specs.Search.{FirstStop}
 use Rattle.book.specs.Conditions.{table}
-use Rattle.book.specs.Books.{rows_at, wrote, next, took, cursor_at}
+use Rattle.book.specs.Books.{rows_at, next}
 use Rattle.book.specs.Plain.{Label, waiting, out, graded, Plain, stand, conditions, put, Does, Step}
 use Rattle.book.specs.Shown.{Shows}
-use Rattle.book.specs.Turns.{told_take, told_deed, Holds}
+use Rattle.book.specs.Turns.{Holds, Turned}
 use Rattle.book.proofs.Steps.{comes}
-
--- what a call on a book that stands for p answers and leaves: a step of p, at this cursor and in these words
-pub record Moved (n : ℕ) (p : Plain) (call : Call) (a : Answer) (c : ℕ) (ws : List ℕ) : Type 0 where
-  pub after : Plain
-  pub step : Step n p call a after
-  pub cursor : c ≡ after.cursor
-  pub words : Shows ws after
 
 -- the word of a grade that is not too high
 pub graded_word : (g : ℕ) → ltb 1000 g ≡ false → standing (g + 2) ≡ Graded g
@@ -62,11 +55,16 @@ module _ (b : Book) (ws : List ℕ) (p : Plain) (holds : Holds b ws p) where
       ∙ ap (λ ss. refusal (table b.plan.labels p.cursor ss call)) holds.words
 
   -- a refusal is the plain book's, and leaves it as it was
-  pub refused_moves : (call : Call) (s : Slip) → refusal (rows_at b ws call) ≡ Some s → Moved b.plan.labels p call (Refused s) b.cursor ws
-  refused_moves call s e =
-      record { after = p; step = inl (record { slip = s; given = sym (same_table call) ∙ e; answer = refl; same = refl }); cursor = holds.cursor; words = holds.words }
+  pub refused_turn : (call : Call) (s : Slip) (b' : Book) → refusal (rows_at b ws call) ≡ Some s → b'.plan ≡ b.plan → b'.cursor ≡ b.cursor → Turned b.plan p call (Err s) (Going b') ws
+  refused_turn call s b' e same ec =
+      record {
+        after = p;
+        step = inl (record { slip = s; given = sym (same_table call) ∙ e; answer = refl; same = refl });
+        words = holds.words;
+        next = (refl, same, ec ∙ holds.cursor);
+      }
 
-  accepted : (call : Call) (a : Answer) (q : Plain) → refusal (rows_at b ws call) ≡ None → Does b.plan.labels p call a q → Step b.plan.labels p call a q
+  accepted : (call : Call) (a : Result Answer Slip) (q : Plain) → refusal (rows_at b ws call) ≡ None → Does b.plan.labels p call a q → Step b.plan.labels p call a q
   accepted call a q e d = inr (record { clear = sym (same_table call) ∙ e; does = d })
 
   -- a word that says the new standing of its label
@@ -74,22 +72,23 @@ module _ (b : Book) (ws : List ℕ) (p : Plain) (holds : Holds b ws p) where
   written k w l e =
       map-set standing ws k w ∙ ap (set (standings ws) k) e ∙ ap (λ ss. set ss k (stand l)) holds.words ∙ sym (map-set stand p.labels k l)
 
-  pub take_moves : (len : ℕ) (r : Result ℕ BookFault) → Answers book_slip (rows_at b ws (Take len)) (FirstStop b.cursor (standings ws)) r → Moved b.plan.labels p (Take len) (told_take r) (cursor_at r b) (took r ws)
-  take_moves len (Err f) h = refused_moves (Take len) (book_slip f) h
-  take_moves len (Ok k) h =
+  pub take_turn : (len k : ℕ) (b' : Book) → refusal (rows_at b ws (Take len)) ≡ None → FirstStop b.cursor (standings ws) k → b'.plan ≡ b.plan → b'.cursor ≡ next b.plan.labels k → Turned b.plan p (Take len) (Ok (answer.Took k)) (Going b') (set ws k 1)
+  take_turn len k b' e stop same ec =
       let after : Plain = record { cursor = next b.plan.labels k; labels = set p.labels k out } in
-      let stopped = subst (λ ss. FirstStop p.cursor ss k) holds.words (subst (λ i. FirstStop i (standings ws) k) holds.cursor h.1) in
-      record { after = after; step = accepted (Take len) (Took k) after h.0 (k, comes p k stopped, refl, refl); cursor = refl; words = written k 1 out refl }
+      let stopped = subst (λ ss. FirstStop p.cursor ss k) holds.words (subst (λ i. FirstStop i (standings ws) k) holds.cursor stop) in
+      record {
+        after = after;
+        step = accepted (Take len) (Ok (answer.Took k)) after e (k, comes p k stopped, refl, refl);
+        words = written k 1 out refl;
+        next = (refl, same, ec);
+      }
 
   -- a label put to another standing
-  puts : (call : Call) (k w : ℕ) (l : Label) → refusal (rows_at b ws call) ≡ None → Does b.plan.labels p call Done (put p k l) → standing w ≡ stand l → Moved b.plan.labels p call Done b.cursor (set ws k w)
-  puts call k w l e d says = record { after = put p k l; step = accepted call Done (put p k l) e d; cursor = holds.cursor; words = written k w l says }
+  puts : (call : Call) (k w : ℕ) (l : Label) → refusal (rows_at b ws call) ≡ None → Does b.plan.labels p call (Ok answer.Done) (put p k l) → standing w ≡ stand l → Turned b.plan p call (Ok answer.Done) (Going b) (set ws k w)
+  puts call k w l e d says =
+      record { after = put p k l; step = accepted call (Ok answer.Done) (put p k l) e d; words = written k w l says; next = (refl, refl, holds.cursor) }
 
-  pub deed_moves : (d : Deed) (len k : ℕ) (r : Result (Unit {0}) BookFault) → Answers book_slip (rows_at b ws (asked d len k)) (λ _. Unit {0}) r → Moved b.plan.labels p (asked d len k) (told_deed r) b.cursor (wrote r ws k (made d))
-  deed_moves d len k (Err f) h = refused_moves (asked d len k) (book_slip f) h
-  deed_moves (deed.Mark g) len k (Ok u) h = puts (Mark len k g) k (g + 2) (graded g) h.0 (refl, refl) (graded_word g (none_only (rows_at b ws (Mark len k g)) h.0).1.1.0)
-  deed_moves deed.Spoil len k (Ok u) h = puts (Spoil len k) k 0 waiting h.0 (refl, refl) refl
-  deed_moves deed.Strike len k (Ok u) h = puts (Strike len k) k 0 waiting h.0 (refl, refl) refl
-
-  pub finish_moves : (len : ℕ) → refusal (rows_at b ws (Finish len)) ≡ None → Moved b.plan.labels p (Finish len) Finished b.cursor ws
-  finish_moves len e = record { after = p; step = accepted (Finish len) Finished p e (refl, refl); cursor = holds.cursor; words = holds.words }
+  pub deed_turn : (d : Deed) (len k : ℕ) → refusal (rows_at b ws (asked d len k)) ≡ None → Turned b.plan p (asked d len k) (Ok answer.Done) (Going b) (set ws k (code (made d)))
+  deed_turn (deed.Mark g) len k e = puts (Mark len k g) k (g + 2) (graded g) e (refl, refl) (graded_word g (none_only (rows_at b ws (Mark len k g)) e).1.1.0)
+  deed_turn deed.Spoil len k e = puts (Spoil len k) k 0 waiting e (refl, refl) refl
+  deed_turn deed.Strike len k e = puts (Strike len k) k 0 waiting e (refl, refl) refl

@@ -1,8 +1,10 @@
 -- Steps and laws of the search upward through the labels. Assumes nothing.
-use Rattle.std.proofs.Common.{◌≡◌, ℕ, zero, suc, ◌+◌, ◌-◌, ◌<◌, ◌≤◌, Bool, true, false, cond, ◌⊎◌, List, [], ◌∷◌, length, get_or, is_some, Some, None, Option, sym, refl, ap, ◌∙◌, subst, inl, inr, ⊎_elim, arith}
-use native.Mathlib.Nat.{sub-zero}
-use lib.ListN.{length-map}
-use Rattle.std.proofs.lemmas.Bool.{cases_Bool, cases_lt, cases_order, cases_eq, both_ways, cond-true, cond-false}
+use Rattle.std.proofs.Common.{◌≡◌, ℕ, zero, suc, ◌+◌, ◌-◌, ◌<◌, ◌≤◌, Bool, true, false, cond, ◌⊎◌, List, [], ◌∷◌, length, get_or, is_some, Some, None, Option, sym, refl, ap, ◌∙◌, subst, ⊎_elim, arith, take, drop, position, option_map, length-drop, ◌||◌}
+use lib.ListN.{length-map, get_or-map}
+use Rattle.std.specs.List.{list_any, position_from}
+use Rattle.std.proofs.lemmas.List.{drop_more, take_all}
+use Rattle.std.proofs.lemmas.Iterator.Adapters.{position_from-zero}
+use Rattle.std.proofs.lemmas.Bool.{cases_Bool, cases_lt, cases_eq, both_ways}
 use Rattle.book.specs.declared.standing.Standing.{Standing}
 use Rattle.book.specs.declared.standing.Standing.TheVariants.{Waiting}
 use Rattle.book.specs.Standings.{standing, standings, stops}
@@ -11,33 +13,45 @@ use Rattle.book.specs.Laws.{StopLaw}
 
 -- how a label stands is what its word says
 pub stands_word : (ws : List ℕ) (k : ℕ) → get_or (standings ws) k Waiting ≡ standing (get_or ws k 0)
-stands_word [] k = refl
-stands_word (w ∷ ws) zero = refl
-stands_word (w ∷ ws) (suc k) = stands_word ws k
+stands_word ws k = get_or-map standing ws k 0
 
-module _ (so : Standing → Bool) (ss : List Standing) where
-  first_step : (i to : ℕ) → i < to → first so ss i (to - i) ≡ cond (so (get_or ss i Waiting)) (Some i) (first so ss (i + 1) (to - (i + 1)))
-  first_step i to h = let e : to - i ≡ suc (to - (i + 1)) = omega arith in ap (first so ss i) e
+-- what the library's search finds in the words from c on
+module _ (so : Standing → Bool) where
+  found_from : (ws : List ℕ) (c i j : ℕ) → j ≡ c + i → position_from (λ w. so (standing w)) j ws ≡ option_map (λ k. c + k) (position_from (λ w. so (standing w)) i ws)
+  found_from [] c i j e = refl
+  found_from (w ∷ ws) c i j e =
+      elim (so (standing w)) as (λ b. cond b (Some j) (position_from (λ v. so (standing v)) (j + 1) ws) ≡ option_map (λ k. c + k) (cond b (Some i) (position_from (λ v. so (standing v)) (i + 1) ws)))
+      [ true ↦ ap Some e | false ↦ found_from ws c (i + 1) (j + 1) (omega arith) ]
 
-  pub first_go : (i to : ℕ) → i < to → so (get_or ss i Waiting) ≡ false → first so ss (i + 1) (to - (i + 1)) ≡ first so ss i (to - i)
-  first_go i to h e = sym (first_step i to h ∙ cond-false _ _ _ e)
+  first_from : (ws : List ℕ) (i m : ℕ) → i + m ≤ length ws → position_from (λ w. so (standing w)) i (take m (drop i ws)) ≡ first so (standings ws) i m
+  first_from ws i zero h = refl
+  first_from ws i (suc m) h =
+      rw (drop_more ws i 0 (omega arith), stands_word ws i) (ap (cond (so (standing (get_or ws i 0))) (Some i)) (first_from ws (i + 1) m (omega arith)))
 
-  pub first_hit : (i to : ℕ) → i < to → so (get_or ss i Waiting) ≡ true → first so ss i (to - i) ≡ Some i
-  first_hit i to h e = first_step i to h ∙ cond-true _ _ _ e
+  pub first_below : (ws : List ℕ) (c : ℕ) → c ≤ length ws → position (λ w. so (standing w)) (take c ws) ≡ first so (standings ws) 0 c
+  first_below ws c h = position_from-zero (λ w. so (standing w)) (take c ws) ∙ first_from ws 0 c (omega arith)
 
-  pub first_end : (i to : ℕ) → to ≤ i → first so ss i (to - i) ≡ None
-  first_end i to h = let e : to - i ≡ 0 = omega arith in ap (first so ss i) e
+  pub first_above : (ws : List ℕ) (c : ℕ) → c ≤ length ws → option_map (λ k. c + k) (position (λ w. so (standing w)) (drop c ws)) ≡ first so (standings ws) c (length (standings ws) - c)
+  first_above ws c h =
+      ap (option_map (λ k. c + k)) (position_from-zero (λ w. so (standing w)) (drop c ws))
+      ∙ sym (found_from (drop c ws) c 0 c (omega arith))
+      ∙ ap (λ r. position_from (λ w. so (standing w)) c r) (sym (take_all (length ws - c) (drop c ws) (omega (arith, length-drop c ws))))
+      ∙ first_from ws c (length ws - c) (omega arith)
+      ∙ ap (λ n. first so (standings ws) c (n - c)) (sym (length-map ws standing))
 
--- where a take stops, by what the search through the words from the cursor on found
-pub stop_word : {o : Option ℕ} (ws : List ℕ) (c : ℕ) → first stops (standings ws) c (length ws - c) ≡ o → stop c (standings ws) ≡ or_else o (first stops (standings ws) 0 c)
-stop_word ws c e = ap (λ n. or_else (first stops (standings ws) c (n - c)) (first stops (standings ws) 0 c)) (length-map ws standing) ∙ ap (λ r. or_else r (first stops (standings ws) 0 c)) e
+  pub lowest_word : (ws : List ℕ) → lowest so (standings ws) ≡ position (λ w. so (standing w)) ws
+  lowest_word ws = rw (length-map ws standing, ← first_below ws (length ws) (omega arith), take_all (length ws) ws (omega arith))
 
--- the search through all the words
-pub lowest_word : (so : Standing → Bool) (ws : List ℕ) → first so (standings ws) 0 (length ws - 0) ≡ lowest so (standings ws)
-lowest_word so ws = ap (first so (standings ws) 0) (sub-zero (length ws) ∙ sym (length-map ws standing))
+  any_from : (ws : List ℕ) (i : ℕ) → list_any (λ w. so (standing w)) ws ≡ is_some (position_from (λ w. so (standing w)) i ws)
+  any_from [] i = refl
+  any_from (w ∷ ws) i = elim (so (standing w)) as (λ b. (b || list_any (λ v. so (standing v)) ws) ≡ is_some (cond b (Some i) (position_from (λ v. so (standing v)) (i + 1) ws))) [ true ↦ refl | false ↦ any_from ws (i + 1) ]
 
-pub none_some : {P : Type 0} {k : ℕ} → None ≡ Some k → P
-none_some e = let z : ◌≡◌ {A = ℕ} 0 1 = cc in absurd (omega arith)
+  pub some_word : (ws : List ℕ) → some so (standings ws) ≡ list_any (λ w. so (standing w)) ws
+  some_word ws = ap is_some (lowest_word ws ∙ position_from-zero (λ w. so (standing w)) ws) ∙ sym (any_from ws 0)
+
+-- where a take stops, by the words from the cursor on and those below it
+pub stop_word : (ws : List ℕ) (c : ℕ) → c ≤ length ws → or_else (option_map (λ k. c + k) (position (λ w. stops (standing w)) (drop c ws))) (position (λ w. stops (standing w)) (take c ws)) ≡ stop c (standings ws)
+stop_word ws c h = rw (first_above stops ws c h, first_below stops ws c h)
 
 -- k is the first label from i on that stands so, and is below i + m
 pub record Hit (so : Standing → Bool) (ss : List Standing) (i m k : ℕ) : Type 0 where
@@ -46,74 +60,62 @@ pub record Hit (so : Standing → Bool) (ss : List Standing) (i m k : ℕ) : Typ
   pub here : so (get_or ss k Waiting) ≡ true
   pub sooner : (j : ℕ) → i ≤ j → j < k → so (get_or ss j Waiting) ≡ false
 
+-- what a search through the m labels from i on found
+abbrev pub Found : (Standing → Bool) → List Standing → (i m : ℕ) → Option ℕ → Type 0
+Found so ss i m None = (j : ℕ) → i ≤ j → j < i + m → so (get_or ss j Waiting) ≡ false
+Found so ss i m (Some k) = Hit so ss i m k
+
 module _ (so : Standing → Bool) (ss : List Standing) where
   -- what holds at i, and from the next on, holds from i on
   from_next : (i j : ℕ) → so (get_or ss i Waiting) ≡ false → i ≤ j → (i + 1 ≤ j → so (get_or ss j Waiting) ≡ false) → so (get_or ss j Waiting) ≡ false
-  from_next i j e l more = ⊎_elim (λ same. subst (λ x. so (get_or ss x Waiting) ≡ false) same e) (λ h. more (omega arith)) (by_order (cases_order i j))
-    where
-      by_order : (i ≡ j) ⊎ ((i < j) ⊎ (j < i)) → (i ≡ j) ⊎ (i < j)
-      by_order (inl h) = inl h
-      by_order (inr (inl h)) = inr h
-      by_order (inr (inr h)) = absurd (omega arith)
+  from_next i j e l more =
+      ⊎_elim (λ h. more (omega arith)) (λ h. let same : i ≡ j = omega arith in subst (λ x. so (get_or ss x Waiting) ≡ false) same e) (cases_lt i j)
 
-  hit_at : (b : Bool) (i m k : ℕ) → so (get_or ss i Waiting) ≡ b → (first so ss (i + 1) m ≡ Some k → Hit so ss (i + 1) m k) → cond b (Some i) (first so ss (i + 1) m) ≡ Some k → Hit so ss i (suc m) k
-  hit_at true i m k b more e =
-      let same : i ≡ k = cc in
-      record { low = omega arith; high = omega arith; here = subst (λ x. so (get_or ss x Waiting) ≡ true) same b; sooner = λ j l h. absurd (omega arith) }
-  hit_at false i m k b more e =
-      let h = more e in
-      record { low = omega (arith, h.low); high = omega (arith, h.high); here = h.here; sooner = λ j l u. from_next i j b l (λ l'. h.sooner j l' u) }
+  later : (i m : ℕ) (o : Option ℕ) → so (get_or ss i Waiting) ≡ false → Found so ss (i + 1) m o → Found so ss i (suc m) o
+  later i m None e f = λ j l u. from_next i j e l (λ l'. f j l' (omega arith))
+  later i m (Some k) e h =
+      record { low = omega (arith, h.low); high = omega (arith, h.high); here = h.here; sooner = λ j l u. from_next i j e l (λ l'. h.sooner j l' u) }
 
-  pub hit : (i m k : ℕ) → first so ss i m ≡ Some k → Hit so ss i m k
-  hit i zero k e = none_some e
-  hit i (suc m) k e = hit_at (so (get_or ss i Waiting)) i m k refl (hit (i + 1) m k) e
-
-  miss_at : (b : Bool) (i m : ℕ) → so (get_or ss i Waiting) ≡ b → (first so ss (i + 1) m ≡ None → (j : ℕ) → i + 1 ≤ j → j < i + 1 + m → so (get_or ss j Waiting) ≡ false) → cond b (Some i) (first so ss (i + 1) m) ≡ None → (j : ℕ) → i ≤ j → j < i + suc m → so (get_or ss j Waiting) ≡ false
-  miss_at true i m b more e j l u = none_some (sym e)
-  miss_at false i m b more e j l u = from_next i j b l (λ l'. more e j l' (omega arith))
-
-  pub miss : (i m : ℕ) → first so ss i m ≡ None → (j : ℕ) → i ≤ j → j < i + m → so (get_or ss j Waiting) ≡ false
-  miss i zero e j l u = absurd (omega arith)
-  miss i (suc m) e j l u = miss_at (so (get_or ss i Waiting)) i m refl (miss (i + 1) m) e j l u
+  pub found : (i m : ℕ) → Found so ss i m (first so ss i m)
+  found i zero = λ j l u. absurd (omega arith)
+  found i (suc m) =
+      ⊎_elim
+      (λ e. rw e (record { low = omega arith; high = omega arith; here = e; sooner = λ j l h. absurd (omega arith) }))
+      (λ e. rw e (later i m (first so ss (i + 1) m) e (found (i + 1) m)))
+      (cases_Bool (so (get_or ss i Waiting)))
 
   -- whether a label stands so, by what was found
-  some_by : (o : Option ℕ) → lowest so ss ≡ o → is_some o ≡ false → (j : ℕ) → j < length ss → so (get_or ss j Waiting) ≡ false
-  some_by None e f j h = miss 0 (length ss) e j (omega arith) (omega arith)
-  some_by (Some k) e f j h = absurd (both_ways true f refl)
+  none_by : (o : Option ℕ) → Found so ss 0 (length ss) o → is_some o ≡ false → (j : ℕ) → j < length ss → so (get_or ss j Waiting) ≡ false
+  none_by None f e j h = f j (omega arith) (omega arith)
+  none_by (Some k) f e j h = cc
 
   pub none_at : some so ss ≡ false → (j : ℕ) → j < length ss → so (get_or ss j Waiting) ≡ false
-  none_at f = some_by (lowest so ss) refl f
+  none_at e = none_by (lowest so ss) (found 0 (length ss)) e
 
   pub some_from : (k : ℕ) → k < length ss → so (get_or ss k Waiting) ≡ true → some so ss ≡ true
   some_from k h t = ⊎_elim (λ e. e) (λ f. absurd (both_ways _ (none_at f k h) t)) (cases_Bool (some so ss))
 
-  found_by : (o : Option ℕ) → lowest so ss ≡ o → ((j : ℕ) → j < length ss → so (get_or ss j Waiting) ≡ false) → is_some o ≡ false
-  found_by None e f = refl
-  found_by (Some k) e f = let h = hit 0 (length ss) k e in absurd (both_ways _ (f k (omega (arith, h.high))) h.here)
+  not_found : (o : Option ℕ) → Found so ss 0 (length ss) o → ((j : ℕ) → j < length ss → so (get_or ss j Waiting) ≡ false) → is_some o ≡ false
+  not_found None f all = refl
+  not_found (Some k) h all = absurd (both_ways _ (all k (omega (arith, h.high))) h.here)
 
   pub none_from : ((j : ℕ) → j < length ss → so (get_or ss j Waiting) ≡ false) → some so ss ≡ false
-  none_from f = found_by (lowest so ss) refl f
+  none_from all = not_found (lowest so ss) (found 0 (length ss)) all
 
--- where a take stops, and that it stops nowhere
+-- where a take stops, or that it stops nowhere
+abbrev pub Stopped : ℕ → List Standing → Option ℕ → Type 0
+Stopped c ss None = (j : ℕ) → j < length ss → stops (get_or ss j Waiting) ≡ false
+Stopped c ss (Some k) = FirstStop c ss k
+
 module _ (ss : List Standing) (c : ℕ) (fits : c ≤ length ss) where
-  none_by : (o : Option ℕ) → first stops ss c (length ss - c) ≡ o → or_else o (first stops ss 0 c) ≡ None → (j : ℕ) → j < length ss → stops (get_or ss j Waiting) ≡ false
-  none_by (Some k) eo e j h = none_some (sym e)
-  none_by None eo e j h = ⊎_elim (λ low. miss stops ss 0 c e j (omega arith) (omega arith)) (λ up. miss stops ss c (length ss - c) eo j up (omega arith)) (cases_lt j c)
-
-  pub stop_none : stop c ss ≡ None → (j : ℕ) → j < length ss → stops (get_or ss j Waiting) ≡ false
-  stop_none e = none_by (first stops ss c (length ss - c)) refl e
-
-  stop_by : (k : ℕ) (o : Option ℕ) → first stops ss c (length ss - c) ≡ o → or_else o (first stops ss 0 c) ≡ Some k → FirstStop c ss k
-  stop_by k (Some i) eo e =
-      let h = hit stops ss c (length ss - c) k (eo ∙ e) in
+  stopped : (o p : Option ℕ) → Found stops ss c (length ss - c) o → Found stops ss 0 c p → Stopped c ss (or_else o p)
+  stopped (Some k) p h below =
       record {
         within = omega (arith, h.low, h.high);
         here = h.here;
         sooner = λ j lt. ⊎_elim (λ s. h.sooner j s.0 s.1) (λ s. absurd (omega (arith, s.0, h.low)));
       }
-  stop_by k None eo e =
-      let h = hit stops ss 0 c k e in
-      let above = miss stops ss c (length ss - c) eo in
+  stopped None (Some k) above h =
       record {
         within = omega (arith, h.high);
         here = h.here;
@@ -121,16 +123,20 @@ module _ (ss : List Standing) (c : ℕ) (fits : c ≤ length ss) where
             (λ s. absurd (omega (arith, s.0, s.1, h.high)))
             (λ s. ⊎_elim (λ up. above j up (omega arith)) (λ low. h.sooner j (omega arith) low) s.1);
       }
+  stopped None None above below = λ j h. ⊎_elim (λ low. below j (omega arith) (omega arith)) (λ up. above j up (omega arith)) (cases_lt j c)
+
+  at_stop : Stopped c ss (stop c ss)
+  at_stop = stopped (first stops ss c (length ss - c)) (first stops ss 0 c) (found stops ss c (length ss - c)) (found stops ss 0 c)
+
+  pub stop_none : stop c ss ≡ None → (j : ℕ) → j < length ss → stops (get_or ss j Waiting) ≡ false
+  stop_none e = subst (Stopped c ss) e at_stop
 
   pub stop_some : (k : ℕ) → stop c ss ≡ Some k → FirstStop c ss k
-  stop_some k e = stop_by k (first stops ss c (length ss - c)) refl e
+  stop_some k e = subst (Stopped c ss) e at_stop
 
 -- of two labels that differ, one is met sooner
 pub one_sooner : (c i k : ℕ) → (i ≡ k → ⊥) → Sooner c i k ⊎ Sooner c k i
-one_sooner c i k ne = ⊎_elim (λ l. ⊎_elim (λ low. ⊎_elim (λ b. inl (inr (b, inr l))) (λ a. inr (inr (low, inl a))) (cases_lt k c)) (λ up. inl (inl (up, l))) (cases_lt i c)) (λ g. other (omega arith)) (cases_lt i k)
-  where
-    other : k < i → Sooner c i k ⊎ Sooner c k i
-    other l = ⊎_elim (λ low. ⊎_elim (λ b. inr (inr (b, inr l))) (λ a. inl (inr (low, inl a))) (cases_lt i c)) (λ up. inr (inl (up, l))) (cases_lt k c)
+one_sooner c i k ne = grind arith
 
 module _ (ss : List Standing) (c : ℕ) (fits : c ≤ length ss) where
   same_stop : (i k : ℕ) → FirstStop c ss i → FirstStop c ss k → i ≡ k

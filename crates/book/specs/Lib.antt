@@ -2,7 +2,6 @@ pub mod Standings
 pub mod Faults
 pub mod Calls
 pub mod Search
-pub mod Sought
 pub mod Deeds
 pub mod Conditions
 pub mod Books

@@ -6,7 +6,7 @@
 --   Does        what a call does that no condition stands against: its answer, and the book after it
 --   Step        what a call answers, and the book after it
 -- Assumes nothing.
-use Rattle.std.specs.Prelude.{◌≡◌, ℕ, ◌<◌, ◌⊎◌, List, map, length, get_or, replicate, Some, None, ◌≢◌, slice_index_or, slice_set}
+use Rattle.std.specs.Prelude.{◌≡◌, ℕ, ◌<◌, ◌⊎◌, List, map, length, get_or, replicate, Some, None, Ok, Err, Result, ◌≢◌, slice_index_or, slice_set}
 use Rattle.refusal.specs.declared.Slip.{Slip}
 use Rattle.refusal.specs.Table.{Row, refusal}
 use Rattle.book.specs.declared.standing.Standing.{Standing}
@@ -14,7 +14,7 @@ use Rattle.book.specs.declared.standing.Standing.TheVariants.{Waiting, Out, Grad
 use Rattle.book.specs.declared.calls.Call.{Call}
 use Rattle.book.specs.declared.calls.Call.TheVariants.{Take, Mark, Spoil, Strike, Finish}
 use Rattle.book.specs.declared.calls.Answer.{Answer}
-use Rattle.book.specs.declared.calls.Answer.TheVariants.{Took, Done, Finished, Refused}
+use Rattle.book.specs.declared.calls.Answer.TheVariants.{Took, Done, Finished}
 use Rattle.book.specs.Search.{Sooner}
 use Rattle.book.specs.Conditions.{table}
 use Rattle.book.specs.Books.{next}
@@ -50,25 +50,25 @@ pub record Takes (p : Plain) (label : ℕ) : Type 0 where
 abbrev pub put : Plain → ℕ → Label → Plain
 put p label l = record { cursor = p.cursor; labels = slice_set p.labels label l }
 
-abbrev pub Does : ℕ → Plain → Call → Answer → Plain → Type 0
+abbrev pub Does : ℕ → Plain → Call → Result Answer Slip → Plain → Type 0
 Does n p (Take len) a q =
-    (label : ℕ) × Takes p label × (a ≡ Took label) × (q ≡ record { cursor = next n label; labels = slice_set p.labels label out })
-Does n p (Mark len label grade) a q = (a ≡ Done) × (q ≡ put p label (graded grade))
-Does n p (Spoil len label) a q = (a ≡ Done) × (q ≡ put p label waiting)
-Does n p (Strike len label) a q = (a ≡ Done) × (q ≡ put p label waiting)
-Does n p (Finish len) a q = (a ≡ Finished) × (q ≡ p)
+    (label : ℕ) × Takes p label × (a ≡ Ok (Took label)) × (q ≡ record { cursor = next n label; labels = slice_set p.labels label out })
+Does n p (Mark len label grade) a q = (a ≡ Ok Done) × (q ≡ put p label (graded grade))
+Does n p (Spoil len label) a q = (a ≡ Ok Done) × (q ≡ put p label waiting)
+Does n p (Strike len label) a q = (a ≡ Ok Done) × (q ≡ put p label waiting)
+Does n p (Finish len) a q = (a ≡ Ok Finished) × (q ≡ p)
 
 -- a call that meets a condition answers the refusal of the smallest number, and changes nothing
-pub record Refuses (n : ℕ) (p : Plain) (call : Call) (a : Answer) (q : Plain) : Type 0 where
+pub record Refuses (n : ℕ) (p : Plain) (call : Call) (a : Result Answer Slip) (q : Plain) : Type 0 where
   pub slip : Slip
   pub given : refusal (conditions n p call) ≡ Some slip
-  pub answer : a ≡ Refused slip
+  pub answer : a ≡ Err slip
   pub same : q ≡ p
 
 -- every other call is accepted, and does what it says
-pub record Accepts (n : ℕ) (p : Plain) (call : Call) (a : Answer) (q : Plain) : Type 0 where
+pub record Accepts (n : ℕ) (p : Plain) (call : Call) (a : Result Answer Slip) (q : Plain) : Type 0 where
   pub clear : refusal (conditions n p call) ≡ None
   pub does : Does n p call a q
 
-abbrev pub Step : ℕ → Plain → Call → Answer → Plain → Type 0
+abbrev pub Step : ℕ → Plain → Call → Result Answer Slip → Plain → Type 0
 Step n p call a q = Refuses n p call a q ⊎ Accepts n p call a q

@@ -1,8 +1,6 @@
-// The grading calls of a row, and what each answers.
+// The grading calls of a row, and what each answers where it is accepted.
 ghost use Rattle.std.specs.Prelude.{◌≡◌};
 ghost use Rattle.book.specs.Calls.{len_of};
-
-use refusal::Slip;
 
 // A call with its arguments; `len` is the length of the memory handed in.
 #[derive(Clone, Copy, Debug, PartialEq, Eq)]
@@ -20,15 +18,16 @@ impl Call {
         ensures { result ≡ len_of self }
     {
         match self {
-            Call::Take { len } => len,
-            Call::Mark { len, .. } => len,
-            Call::Spoil { len, .. } => len,
-            Call::Strike { len, .. } => len,
-            Call::Finish { len } => len,
+            Call::Take { len }
+            | Call::Mark { len, .. }
+            | Call::Spoil { len, .. }
+            | Call::Strike { len, .. }
+            | Call::Finish { len } => len,
         }
     }
 }
 
+// What an accepted call answers.
 #[derive(Clone, Copy, Debug, PartialEq, Eq)]
 pub enum Answer {
     // take: the label
@@ -37,5 +36,4 @@ pub enum Answer {
     Done,
     // finish: no call follows
     Finished,
-    Refused(Slip),
 }

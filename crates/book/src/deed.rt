@@ -8,6 +8,7 @@ ghost use Rattle.book.specs.Deeds.{made, is_high, against};
 use crate::fault::BookFault;
 use crate::standing::Standing;
 
+// Kept: the rows against a deed, its call and what it makes are told of the deed; a closure would show none of them.
 #[derive(Clone, Copy)]
 pub enum Deed {
     Mark(u32),

@@ -27,6 +27,7 @@ pub enum BookFault {
 impl Fault for BookFault {
     ghost tells = { book_slip };
 
+    // Kept: the refusal table's format needs the number and the place of its row.
     fn slip(&self) -> Slip {
         let (number, place) = match *self {
             BookFault::Words => (6, 0),

@@ -13,7 +13,7 @@ ghost use Rattle.book.specs.Laws.{StopLaw};
 
 use crate::deed::Deed;
 use crate::fault::BookFault;
-use crate::search::{Sought, seek};
+use crate::search::seek;
 use crate::shape::{Book, Finished};
 use crate::standing::Standing;
 use plan::shape::Plan;
@@ -34,15 +34,19 @@ pub fn graded(plan: Plan, words: &[u16]) -> Result<(), BookFault>
     ensures { Answers book_slip (finishing plan.labels (length words.now) (standings words.now)) (λ _. Unit {0}) result }
 {
     fits(plan, words)?;
-    if Sought::Unready.first(words, 0, words.len()).is_some() {
+    if words.iter().any(|word| Standing::read(*word).unready()) {
         return Err(BookFault::Ungraded);
     }
-    match Sought::Torn.first(words, 0, words.len()) {
+    match words
+        .iter()
+        .position(|word| Standing::read(*word).is_torn())
+    {
         Some(at) => Err(BookFault::Torn(at as u32)),
         None => Ok(()),
     }
 }
 
+// Kept: by a rule of the project the words are lent to each call, so no struct holds them beside the book.
 impl Book {
     // Opens a book: every label waits, and the cursor is 0.
     pub fn open(plan: Plan, words: &mut [u16]) -> Result<Book, BookFault>
@@ -50,13 +54,12 @@ impl Book {
         ensures words { words.new ≡ cleared result words.old }
     {
         fits(plan, words)?;
-        for word in words.iter_mut() {
-            *word = 0;
-        }
+        words.fill(0);
         Ok(Book { plan, cursor: 0 })
     }
 
     // Hands out the first waiting label from the cursor upward, once round. The label is then out.
+    #[tactic(auto, using(crate::proofs::Upward::stop_law))]
     pub fn take(&mut self, words: &mut [u16]) -> Result<u32, BookFault>
         ensures answer { Answers book_slip (rows_at self.old words.old (Take (length words.old))) (FirstStop self.old.cursor (standings words.old)) result }
         ensures words { words.new ≡ took result words.old }
@@ -66,13 +69,14 @@ impl Book {
     {
         fits(self.plan, words)?;
         let Some(at) = seek(words, self.cursor as usize) else {
-            return Err(match Sought::Out.first(words, 0, words.len()) {
-                Some(_) => BookFault::SomeOut,
-                None => BookFault::Done,
+            return Err(if words.iter().any(|word| Standing::read(*word).is_out()) {
+                BookFault::SomeOut
+            } else {
+                BookFault::Done
             });
         };
         let label = at as u32;
-        if let Standing::Torn = Standing::read(words[at]) {
+        if Standing::read(words[at]).is_torn() {
             return Err(BookFault::Torn(label));
         }
         words[at] = 1;

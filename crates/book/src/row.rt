@@ -1,21 +1,21 @@
 // A row of calls on one book, over words that are lent to it.
-ghost use Rattle.std.specs.Prelude.{◌≡◌, ℕ, ◌≤◌, length, if◌then◌else◌, ◌≢◌, nat_le};
+ghost use Rattle.std.specs.Prelude.{◌≡◌, if◌then◌else◌, nat_le};
 ghost use Rattle.book.specs.declared.row.RowFault.TheVariants.{Memory, Opening};
-ghost use Rattle.book.specs.Calls.{len_of};
 ghost use Rattle.book.specs.Plain.{Plain};
 ghost use Rattle.book.specs.Laws.{OneStep};
 ghost use Rattle.book.specs.Shown.{RowEnds};
-ghost use Rattle.book.specs.Turns.{told_take, told_deed, Holds, Turned, Unfit};
+ghost use Rattle.book.specs.Turns.{Holds, Turned, Acts};
 
 use crate::calls::{Answer, Call};
 use crate::fault::BookFault;
 use crate::ledger::fits;
 use crate::shape::{Book, Finished};
 use plan::shape::Plan;
-use refusal::Fault;
+use refusal::{Fault, Slip};
 use std::alloc::{AllocError, Global};
 
 // The book after a call: still in use, or finished.
+// Kept: neither state is an error, so Result<Finished, Book> is no plainer.
 #[derive(Drop)]
 pub enum Next {
     Going(Book),
@@ -25,12 +25,12 @@ pub enum Next {
 // What a row of calls gave.
 #[derive(Drop)]
 pub struct Ran {
-    pub answers: Vec<Answer>,
+    pub answers: Vec<Result<Answer, Slip>>,
     pub next: Next,
 }
 
 // Why a row of calls was not begun.
-#[derive(Drop)]
+#[derive(Clone, Copy, Debug, PartialEq, Eq)]
 pub enum RowFault {
     // no memory for the answers
     Memory,
@@ -38,6 +38,7 @@ pub enum RowFault {
     Opening(BookFault),
 }
 
+// Kept: written by hand, as clauses read `from_gives`, which the derive of the crate thiserror does not give.
 impl From<BookFault> for RowFault {
     ghost from_gives = { λ f r. r ≡ Opening f };
 
@@ -56,6 +57,7 @@ impl From<AllocError> for RowFault {
 
 // Opens a book over the words and performs the calls, until they end or a finish is accepted. A call that
 // names N is handed the words, any other call memory of another length.
+#[tactic(auto, using(crate::proofs::Steps::one_step))]
 pub fn run(heap: Global, plan: Plan, words: &mut [u16], calls: &[Call]) -> Result<Ran, RowFault>
     ensures row { RowEnds plan calls.now words.old words.new result }
     ensures once { OneStep }
@@ -81,7 +83,7 @@ pub fn run(heap: Global, plan: Plan, words: &mut [u16], calls: &[Call]) -> Resul
 }
 
 // One call, which is handed as many of the words as it names, or none where there are not so many.
-fn perform(book: Book, words: &mut [u16], call: Call) -> (Answer, Next)
+fn perform(book: Book, words: &mut [u16], call: Call) -> (Result<Answer, Slip>, Next)
     ensures { (p : Plain) → Holds book words.old p → Turned book.plan p call result.0 result.1 words.new }
 {
     let len = part(call.handed(), words.len());
@@ -96,67 +98,43 @@ pub fn part(named: usize, all: usize) -> usize
 }
 
 // One call on the words that it is handed.
-fn act(mut book: Book, words: &mut [u16], call: Call) -> (Answer, Next)
-    ensures follows { (p : Plain) → Holds book words.old p → len_of call ≡ book.plan.labels → Turned book.plan p call result.0 result.1 words.new }
-    ensures unfit { (length words.old ≢ book.plan.labels) → Unfit book words.old result.0 result.1 words.new }
+fn act(mut book: Book, words: &mut [u16], call: Call) -> (Result<Answer, Slip>, Next)
+    ensures { Acts book words.old call result.0 result.1 words.new }
 {
-    match call {
-        Call::Take { .. } => (took(book.take(words)), Next::Going(book)),
-        Call::Mark { label, grade, .. } => (
-            done(book.mark(words, label, grade)),
-            Next::Going(book),
-        ),
-        Call::Spoil { label, .. } => (done(book.spoil(words, label)), Next::Going(book)),
-        Call::Strike { label, .. } => (done(book.strike(words, label)), Next::Going(book)),
-        Call::Finish { .. } => match book.finish(words) {
-            Ok(end) => (Answer::Finished, Next::Over(end)),
-            Err(refused) => {
-                let (fault, back) = refused;
-                (Answer::Refused(fault.slip()), Next::Going(back))
-            }
-        },
-    }
-}
-
-fn took(res: Result<u32, BookFault>) -> Answer
-    ensures { result ≡ told_take res }
-{
-    match res {
-        Ok(label) => Answer::Took(label),
-        Err(fault) => Answer::Refused(fault.slip()),
-    }
-}
-
-fn done(res: Result<(), BookFault>) -> Answer
-    ensures { result ≡ told_deed res }
-{
-    match res {
-        Ok(()) => Answer::Done,
-        Err(fault) => Answer::Refused(fault.slip()),
-    }
+    let answer = match call {
+        Call::Take { .. } => book.take(words).map(Answer::Took),
+        Call::Mark { label, grade, .. } => book.mark(words, label, grade).map(|_| Answer::Done),
+        Call::Spoil { label, .. } => book.spoil(words, label).map(|_| Answer::Done),
+        Call::Strike { label, .. } => book.strike(words, label).map(|_| Answer::Done),
+        Call::Finish { .. } => {
+            return match book.finish(words) {
+                Ok(end) => (Ok(Answer::Finished), Next::Over(end)),
+                Err((fault, back)) => (Err(fault.slip()), Next::Going(back)),
+            };
+        }
+    };
+    (answer.map_err(|fault| fault.slip()), Next::Going(book))
 }
 
 #[cfg(test)]
 mod tests {
     use super::*;
+    use refusal::Layer;
     use std::process::Abort;
     use std::test::Fail;
 
-    // A refusal's number and place; 0 with the label taken, 1 for done, 2 for finished.
-    fn told(answer: Answer) -> (u8, usize) {
-        match answer {
-            Answer::Took(label) => (0, label as usize),
-            Answer::Done => (1, 0),
-            Answer::Finished => (2, 0),
-            Answer::Refused(slip) => (slip.number, slip.place),
-        }
+    // A refusal of the book's layer.
+    fn refused(number: u8, place: usize) -> Result<Answer, Slip> {
+        Err(Slip {
+            number,
+            layer: Layer::Book,
+            place,
+        })
     }
 
     #[test]
     fn a_row_until_its_finish(rt: HostRuntime) -> Result<(), Fail> {
-        let Ok(plan) = Plan::new(2, 1, 1, 7) else {
-            return Err(Fail::new("no plan"));
-        };
+        let plan = Plan::new(2, 1, 1, 7)?;
         let calls = [
             Call::Take { len: 2 },
             Call::Take { len: 3 },
@@ -190,28 +168,23 @@ mod tests {
             Call::Take { len: 2 },
         ];
         let expected = [
-            (0, 0),
-            (6, 0),
-            (16, 0),
-            (1, 0),
-            (0, 1),
-            (14, 0),
-            (7, 2),
-            (10, 0),
-            (13, 0),
-            (1, 0),
-            (15, 0),
-            (6, 0),
-            (2, 0),
+            Ok(Answer::Took(0)),
+            refused(6, 0),
+            refused(16, 0),
+            Ok(Answer::Done),
+            Ok(Answer::Took(1)),
+            refused(14, 0),
+            refused(7, 2),
+            refused(10, 0),
+            refused(13, 0),
+            Ok(Answer::Done),
+            refused(15, 0),
+            refused(6, 0),
+            Ok(Answer::Finished),
         ];
         let mut words = [9u16; 2];
-        let Ok(ran) = run(rt.alloc(), plan, &mut words, &calls) else {
-            return Err(Fail::new("not run"));
-        };
-        assert!(rt; ran.answers.len() == expected.len());
-        for (answer, right) in ran.answers.iter().zip(expected.iter()) {
-            assert_eq!(rt; told(*answer), *right);
-        }
+        let ran = run(rt.alloc(), plan, &mut words, &calls)?;
+        assert_eq!(rt; ran.answers.as_slice(), expected.as_slice());
         assert_eq!(rt; words, [1002, 2]);
         Ok(())
     }
@@ -221,11 +194,11 @@ mod tests {
         rt: &impl Abort,
         mut book: Book,
         words: &mut [u16],
-        calls: &[(Call, (u8, usize))],
+        calls: &[(Call, Result<Answer, Slip>)],
     ) -> Result<(), Fail> {
         for (call, right) in calls {
             let (answer, next) = perform(book, words, *call);
-            assert_eq!(rt; told(answer), *right);
+            assert_eq!(rt; answer, *right);
             match next {
                 Next::Going(back) => book = back,
                 Next::Over(_) => return Err(Fail::new("finished")),
@@ -236,34 +209,30 @@ mod tests {
 
     #[test]
     fn calls_on_torn_words(rt: HostRuntime) -> Result<(), Fail> {
-        let Ok(plan) = Plan::new(2, 2, 2, 7) else {
-            return Err(Fail::new("no plan"));
-        };
+        let plan = Plan::new(2, 2, 2, 7)?;
         let mut words = [9u16; 4];
-        let Ok(book) = Book::open(plan, &mut words) else {
-            return Err(Fail::new("not opened"));
-        };
+        let book = Book::open(plan, &mut words)?;
         words = [1, 1002, 1003, 65535];
         let calls = [
-            (Call::Take { len: 4 }, (17, 2)),
+            (Call::Take { len: 4 }, refused(17, 2)),
             (
                 Call::Mark {
                     len: 4,
                     label: 3,
                     grade: 5,
                 },
-                (17, 3),
+                refused(17, 3),
             ),
-            (Call::Strike { len: 4, label: 1 }, (1, 0)),
-            (Call::Finish { len: 4 }, (16, 0)),
-            (Call::Take { len: 4 }, (0, 1)),
+            (Call::Strike { len: 4, label: 1 }, Ok(Answer::Done)),
+            (Call::Finish { len: 4 }, refused(16, 0)),
+            (Call::Take { len: 4 }, Ok(Answer::Took(1))),
             (
                 Call::Mark {
                     len: 4,
                     label: 0,
                     grade: 7,
                 },
-                (1, 0),
+                Ok(Answer::Done),
             ),
             (
                 Call::Mark {
@@ -271,10 +240,10 @@ mod tests {
                     label: 1,
                     grade: 8,
                 },
-                (1, 0),
+                Ok(Answer::Done),
             ),
-            (Call::Finish { len: 4 }, (17, 2)),
-            (Call::Finish { len: 5 }, (6, 0)),
+            (Call::Finish { len: 4 }, refused(17, 2)),
+            (Call::Finish { len: 5 }, refused(6, 0)),
         ];
         play(&rt, book, &mut words, &calls)?;
         assert_eq!(rt; words, [9, 10, 1003, 65535]);

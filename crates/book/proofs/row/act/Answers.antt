@@ -1,37 +1,35 @@
+use Rattle.std.proofs.Common.{◌≡◌, refl, rules}
+use Rattle.book.specs.declared.calls.Call.TheVariants.{Finish}
+use Rattle.book.specs.declared.calls.Answer.TheVariants as answer
 use Rattle.book.specs.declared.deed.Deed.TheVariants as deed
-use Rattle.book.proofs.Acting.{take_acts, deed_acts, finish_acts, refused_acts}
+use Rattle.book.proofs.Acting.{told, take_acts, deed_acts, refused_acts}
 use Rattle.book.proofs.row.act.Goals as goal
+use Rattle.book.proofs.row.act.Goals.{in-Take, in-Mark, in-Spoil, in-Strike}
 
-pub returns-in-Take : goal.returns-in-Take
-returns-in-Take c =
-    let acts = take_acts c.args.book c.args.words.now c.args.call c.in-Take.len c.take.result c.took.result c.take.new.self c.take.new.words
-    c.in-Take.is c.take.ensures.answer c.took.ensures c.take.ensures.plan c.take.ensures.cursor c.take.ensures.words in
-    record { follows = acts.follows; unfit = acts.unfit }
-
-pub returns-in-Mark : goal.returns-in-Mark
-returns-in-Mark c =
-    let acts = deed_acts c.args.book c.args.words.now c.args.call (deed.Mark c.in-Mark.grade) c.in-Mark.len c.in-Mark.label c.mark.result c.done.result c.mark.new.words
-    c.in-Mark.is c.mark.ensures.answer c.done.ensures c.mark.ensures.words in
-    record { follows = acts.follows; unfit = acts.unfit }
-
-pub returns-in-Spoil : goal.returns-in-Spoil
-returns-in-Spoil c =
-    let acts = deed_acts c.args.book c.args.words.now c.args.call deed.Spoil c.in-Spoil.len c.in-Spoil.label c.spoil.result c.done-in-Spoil.result c.spoil.new.words
-    c.in-Spoil.is c.spoil.ensures.answer c.done-in-Spoil.ensures c.spoil.ensures.words in
-    record { follows = acts.follows; unfit = acts.unfit }
-
-pub returns-in-Strike : goal.returns-in-Strike
-returns-in-Strike c =
-    let acts = deed_acts c.args.book c.args.words.now c.args.call deed.Strike c.in-Strike.len c.in-Strike.label c.strike.result c.done-in-Strike.result c.strike.new.words
-    c.in-Strike.is c.strike.ensures.answer c.done-in-Strike.ensures c.strike.ensures.words in
-    record { follows = acts.follows; unfit = acts.unfit }
-
-pub returns-in-Ok : goal.returns-in-Ok
-returns-in-Ok c =
-    let acts = finish_acts c.args.book c.args.words.now c.args.call c.in-Finish.len c.in-Ok.end c.in-Finish.is c.in-Ok.ensures.answer.0 c.in-Ok.ensures.answer.1 in
-    record { follows = acts.follows; unfit = acts.unfit }
+pub returns : goal.returns
+returns c =
+    let book = c.args.book in
+    let ws = c.args.words.now in
+    elim c.match-call.branch [
+      | in-Take w ↦
+          let is : c.map_err.result ≡ told answer.Took w.take.result = search rules in
+          rw (w.in-Take.is, is, w.book-is, w.words-is, w.take.ensures.words)
+          (take_acts book ws w.in-Take.len w.take.result w.take.new.self w.take.ensures.answer w.take.ensures.plan w.take.ensures.cursor)
+      | in-Mark w ↦
+          let is : c.map_err.result ≡ told (λ _. answer.Done) w.mark.result = search rules in
+          rw (w.in-Mark.is, is, w.book-is, w.words-is, w.mark.ensures.words)
+          (deed_acts book ws (deed.Mark w.in-Mark.grade) w.in-Mark.len w.in-Mark.label w.mark.result w.mark.ensures.answer)
+      | in-Spoil w ↦
+          let is : c.map_err.result ≡ told (λ _. answer.Done) w.spoil.result = search rules in
+          rw (w.in-Spoil.is, is, w.book-is, w.words-is, w.spoil.ensures.words)
+          (deed_acts book ws deed.Spoil w.in-Spoil.len w.in-Spoil.label w.spoil.result w.spoil.ensures.answer)
+      | in-Strike w ↦
+          let is : c.map_err.result ≡ told (λ _. answer.Done) w.strike.result = search rules in
+          rw (w.in-Strike.is, is, w.book-is, w.words-is, w.strike.ensures.words)
+          (deed_acts book ws deed.Strike w.in-Strike.len w.in-Strike.label w.strike.result w.strike.ensures.answer)
+    ]
 
 pub returns-in-Err : goal.returns-in-Err
 returns-in-Err c =
-    let acts = refused_acts c.args.book c.args.words.now c.args.call c.in-Finish.len c.in-Err.refused.0 c.slip.result c.in-Err.refused.1 c.in-Finish.is c.in-Err.ensures.answer c.slip.ensures c.in-Err.ensures.same in
-    record { follows = acts.follows; unfit = acts.unfit }
+    rw (c.in-Finish.is, c.slip.ensures, c.in-Err.ensures.same)
+    (refused_acts c.args.book c.args.words.now Finish (λ l. refl) c.in-Finish.len c.in-Err.fault c.args.book c.in-Err.ensures.answer refl refl)

@@ -4,6 +4,8 @@ use Rattle.book.proofs.row.run.Given as goal
 
 abbrev pub invariant-loop-call : goal.invariant-loop-call
 invariant-loop-call l =
-    (vec_len l.answers ≡ l.call-index)
-    × (length l.calls ≤ vec_capacity l.answers)
-    × Playing l.initial.book.plan l.calls l.call-index l.book l.words (vec_items l.answers)
+    record {
+      told : vec_len l.answers ≡ l.call-index;
+      room : length l.calls ≤ vec_capacity l.answers;
+      playing : Playing l.fn.plan l.calls l.call-index l.book l.words (vec_items l.answers);
+    }

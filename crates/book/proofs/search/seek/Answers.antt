@@ -1,24 +1,10 @@
-use Rattle.std.proofs.Common.{ℕ, ◌<◌, ◌≤◌, length, IfSome, Some, None, Option, sym, ap, ◌∙◌, arith}
-use native.Mathlib.Nat.{sub-zero}
-use Rattle.book.specs.Standings.{standings, stops}
-use Rattle.book.specs.Search.{first}
+use Rattle.std.proofs.Common.{◌≡◌, ◌+◌, position, option_map, rules, ◌∙◌}
+use Rattle.book.specs.Standings.{standing, stops}
+use Rattle.book.specs.Search.{or_else}
 use Rattle.book.proofs.Upward.{stop_word}
 use Rattle.book.proofs.search.seek.Goals as goal
 
-further : (o : Option ℕ) (m n : ℕ) → m ≤ n → IfSome o (λ k. k < m) → IfSome o (λ k. k < n)
-further (Some k) m n h l = omega arith
-further None m n h l = tt
-
-pub returns-in-Some : goal.returns-in-Some
-returns-in-Some c =
-    record {
-      answer = sym (stop_word c.args.words.now c.args.cursor (sym c.in-Some.ensures.answer));
-      within = c.in-Some.ensures.within;
-    }
-
-pub returns-in-None : goal.returns-in-None
-returns-in-None c =
-    record {
-      answer = c.first-in-None.ensures.answer ∙ ap (first stops (standings c.args.words.now) 0) (sub-zero c.args.cursor) ∙ sym (stop_word {o = None} c.args.words.now c.args.cursor (sym c.in-None.ensures.answer));
-      within = further c.first-in-None.result c.args.cursor (length c.args.words.now) c.requires c.first-in-None.ensures.within;
-    }
+pub returns-clause-answer : goal.returns-clause-answer
+returns-clause-answer c =
+    let is : c.or_else.result ≡ or_else (option_map (λ k. c.args.cursor + k) c.first_stop.result) (position (λ w. stops (standing w)) c.split_at.result.0.now) = search rules in
+    is ∙ rw (c.first_stop.ensures.answer, c.split_at.ensures.back, c.split_at.ensures.front) (stop_word c.args.words.now c.args.cursor c.requires)

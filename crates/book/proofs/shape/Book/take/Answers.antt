@@ -1,63 +1,32 @@
-use Rattle.std.proofs.Common.{length, is_some, sym, refl, ap, ◌∙◌, rules}
-use Rattle.std.proofs.lemmas.Bool.{cond-true, cond-false}
-use Rattle.book.specs.Standings.{standings, is_torn, is_out}
-use Rattle.book.proofs.Upward.{stands_word, lowest_word, stop_some, stop_law}
-use Rattle.book.proofs.Lines.{fitting, inside, not_torn, take_out, take_done, take_found}
+use borrow.Author.Tests.{tests}
+use Rattle.std.proofs.Common.{sym, ◌∙◌, rules}
+use Rattle.std.proofs.lemmas.Iterator.{YieldsList-from_slice}
+use Rattle.std.proofs.lemmas.Iterator.Search.{any_from_yields_List}
+use Rattle.book.specs.Standings.{standing, is_out}
+use Rattle.book.proofs.Upward.{some_word}
+use Rattle.book.proofs.Lines.{book_out, book_done, book_found, book_stops}
 use Rattle.book.proofs.shape.Book.take.Goals as goal
 
-pub returns-in-Some-first : goal.returns-in-Some-first
-returns-in-Some-first c =
+pub returns-then-any-clause-answer : goal.returns-then-any-clause-answer
+returns-then-any-clause-answer c =
+    let ws = c.args.words.now in
+    let any = any_from_yields_List (λ w. is_out (standing w)) _ _ c.any.result c.any.ensures.ran (YieldsList-from_slice ws (cc)) (λ x b q k. search (rules, tests)) in
+    book_out c.args.self.now ws c.in_ok-fits.ensures.0 c.in_default.ensures.answer (some_word is_out ws ∙ sym any ∙ c.if-any.true)
+
+pub returns-else-any-clause-answer : goal.returns-else-any-clause-answer
+returns-else-any-clause-answer c =
+    let ws = c.args.words.now in
+    let any = any_from_yields_List (λ w. is_out (standing w)) _ _ c.any.result c.any.ensures.ran (YieldsList-from_slice ws (cc)) (λ x b q k. search (rules, tests)) in
+    book_done c.args.self.now ws c.in_ok-fits.ensures.0 c.in_default.ensures.answer (some_word is_out ws ∙ sym any ∙ c.if-any.false)
+
+pub returns-then-is_torn-clause-answer : goal.returns-then-is_torn-clause-answer
+returns-then-is_torn-clause-answer c =
+    book_found c.args.self.now c.args.words.now c.in_ok-fits.ensures.0 c.in-Some.at c.read.result c.in-Some.ensures.answer c.read.ensures (sym c.is_torn.ensures ∙ c.if-is_torn.true)
+
+pub returns-clause-answer : goal.returns-clause-answer
+returns-clause-answer c =
     let book = c.args.self.now in
     let ws = c.args.words.now in
-    let fit = fitting _ _ c.in_ok-fits.ensures.0 in
-    record {
-      answer = take_out book.plan.labels book.cursor (standings ws) (length ws) fit (inside ws _ _ book.below fit) (sym c.in_default.ensures.answer) (ap is_some (sym (lowest_word is_out ws) ∙ sym c.in-Some-first.ensures.answer));
-      words = refl;
-      cursor = refl;
-      plan = refl;
-      stop = stop_law;
-    }
-
-pub returns-in-None : goal.returns-in-None
-returns-in-None c =
-    let book = c.args.self.now in
-    let ws = c.args.words.now in
-    let fit = fitting _ _ c.in_ok-fits.ensures.0 in
-    record {
-      answer = take_done book.plan.labels book.cursor (standings ws) (length ws) fit (inside ws _ _ book.below fit) (sym c.in_default.ensures.answer) (ap is_some (sym (lowest_word is_out ws) ∙ sym c.in-None.ensures.answer));
-      words = refl;
-      cursor = refl;
-      plan = refl;
-      stop = stop_law;
-    }
-
-pub returns-in-Torn : goal.returns-in-Torn
-returns-in-Torn c =
-    let book = c.args.self.now in
-    let ws = c.args.words.now in
-    let fit = fitting _ _ c.in_ok-fits.ensures.0 in
-    let found = take_found book.plan.labels book.cursor (standings ws) (length ws) fit (inside ws _ _ book.below fit) c.in-Some.at (sym c.in-Some.ensures.answer) in
-    record {
-      answer = found ∙ cond-true _ _ _ (ap is_torn (stands_word ws c.in-Some.at ∙ sym c.in-Torn.ensures));
-      words = refl;
-      cursor = refl;
-      plan = refl;
-      stop = stop_law;
-    }
-
-pub returns : goal.returns
-returns c =
-    let book = c.args.self.now in
-    let ws = c.args.words.now in
-    let fit = fitting _ _ c.in_ok-fits.ensures.0 in
-    let found = take_found book.plan.labels book.cursor (standings ws) (length ws) fit (inside ws _ _ book.below fit) c.in-Some.at (sym c.in-Some.ensures.answer) in
-    record {
-      answer = (found ∙ cond-false _ _ _ (ap is_torn (stands_word ws c.in-Some.at ∙ sym c.read.ensures) ∙ not_torn c.read.result c.in_default-read.not-Torn), stop_some (standings ws) book.cursor (inside ws _ _ book.below fit) c.in-Some.at (sym c.in-Some.ensures.answer));
-      words = refl;
-      cursor = search rules;
-      plan = refl;
-      stop = stop_law;
-    }
-
-pub returns-in_err-fits : goal.returns-in_err-fits
-returns-in_err-fits c = search (rules, stop_law)
+    let fits = c.in_ok-fits.ensures.0 in
+    let at = c.in-Some.ensures.answer in
+    (book_found book ws fits c.in-Some.at c.read.result at c.read.ensures (sym c.is_torn.ensures ∙ c.if-is_torn.false), book_stops book ws fits c.in-Some.at at)
