@@ -1,17 +1,19 @@
 -- What the counts by combination say of the occurrences of tuples. Assumes nothing.
-use Rattle.std.proofs.Common.{◌≡◌, ℕ, ◌+◌, ◌*◌, ◌^◌, ◌<◌, ◌≤◌, true, eqb, List, length, get_or, take, sum_by, sym, ap, ◌∙◌, subst, mul_comm, arith, length-take}
-use native.Mathlib.Nat.{pow-le-pow_right}
+use Rattle.std.proofs.Common.{◌≡◌, ℕ, ◌+◌, ◌*◌, ◌^◌, ◌<◌, ◌≤◌, Bool, true, false, not, eqb, List, length, get_or, sum_by, None, Some, sym, refl, ap, ◌∙◌, subst, mul_comm, arith, pow_mono}
 use lib.ListN.{length-map}
-use Rattle.std.specs.List.{AllByRecursion}
+use Rattle.std.specs.List.{AllByRecursion, position}
 use Rattle.std.specs.Int.Digits.{number_from_digits, AllBelowBase}
-use Rattle.std.proofs.lemmas.Int.Digits.{number_lt, number_more}
-use Rattle.std.proofs.ByRecursion.{All-map, All-get_or, All-weaker, All-take}
+use Rattle.std.proofs.lemmas.Int.Digits.{number_lt}
+use Rattle.std.proofs.ByRecursion.{All-map, All-get_or, All-weaker, sum_by_le}
 use Rattle.std.proofs.lemmas.Nat.{mul-add-lt}
-use Rattle.std.proofs.lemmas.List.{get_or-map}
+use Rattle.std.proofs.lemmas.List.Quantifiers.{position-Some}
+use Rattle.std.proofs.lemmas.Bool.{eq-eqb, eqb-true, not-false, not_from_true, both_ways}
+use Rattle.refusal.proofs.Places.{none_below}
+use Rattle.refusal.proofs.Sought.{sought_by_position}
 use Rattle.strength.specs.declared.claim.Claim.{Claim}
 use Rattle.strength.specs.declared.claim.Failure.{Failure}
 use Rattle.strength.specs.Arrays.{at, shown, same, occurrences, Tuple}
-use Rattle.strength.specs.Verdicts.{Even, Fails}
+use Rattle.strength.specs.Verdicts.{Choice, Even, Fails}
 use Rattle.strength.specs.Refusals.{Accepted}
 use Rattle.strength.specs.Steps.{combination, counted}
 use Rattle.strength.proofs.Tuples.{same_self, same_is, same_number, written, length_written, under_written, number_written}
@@ -26,7 +28,7 @@ occurs_once Q cells cs u run h has alone =
 
 module _ {Q : Claim} {cells : List ℕ} (A : Accepted Q cells) where
   -- a run's cell at a column stands in the table, and is a level
-  pub place_lt : (run c : ℕ) → run < Q.runs → c < Q.factors → run * Q.factors + c < length cells
+  place_lt : (run c : ℕ) → run < Q.runs → c < Q.factors → run * Q.factors + c < length cells
   place_lt run c h l = omega (arith, mul-add-lt run Q.factors c Q.runs h l, mul_comm Q.factors Q.runs, A.sized)
 
   at_below : (run c : ℕ) → run < Q.runs → c < Q.factors → at Q cells run c < Q.levels
@@ -36,7 +38,7 @@ module _ {Q : Claim} {cells : List ℕ} (A : Accepted Q cells) where
   shown_under cs b run h =
       All-map (λ z. z < Q.levels) (at Q cells run) cs (All-weaker (λ c. c < Q.factors) (λ c. at Q cells run c < Q.levels) (λ c l. at_below run c h l) cs b)
 
-  pub tuple_lt : (u : List ℕ) → Tuple Q u → number_from_digits Q.levels u < Q.levels ^ Q.strength
+  tuple_lt : (u : List ℕ) → Tuple Q u → number_from_digits Q.levels u < Q.levels ^ Q.strength
   tuple_lt u l = subst (λ z. number_from_digits Q.levels u < Q.levels ^ z) l.many (number_lt Q.levels u l.below)
 
   written_tuple : (m : ℕ) → Tuple Q (written Q.levels Q.strength m)
@@ -46,31 +48,18 @@ module _ {Q : Claim} {cells : List ℕ} (A : Accepted Q cells) where
         below = under_written Q.levels Q.strength m (omega (arith, A.several));
       }
 
-  module _ (cs : List ℕ) (many : length cs ≡ Q.strength) (below : AllByRecursion (λ c. c < Q.factors) cs) where
-    pub combination_lt : (run : ℕ) → run < Q.runs → combination Q cells cs run < Q.levels ^ Q.strength
+  module _ {cs : List ℕ} (C : Choice Q cs) where
+    combination_lt : (run : ℕ) → run < Q.runs → combination Q cells cs run < Q.levels ^ Q.strength
     combination_lt run h =
-        subst (λ z. combination Q cells cs run < Q.levels ^ z) (length-map cs (at Q cells run) ∙ many)
-        (number_lt Q.levels (shown Q cells cs run) (shown_under cs below run h))
-
-    -- what its first columns write: one column more, and a bound
-    pub front_more : (run k : ℕ) → k < length cs → number_from_digits Q.levels (take (k + 1) (shown Q cells cs run)) ≡ number_from_digits Q.levels (take k (shown Q cells cs run)) * Q.levels + at Q cells run (get_or cs k 0)
-    front_more run k h =
-        number_more Q.levels (shown Q cells cs run) k (omega (arith, length-map cs (at Q cells run)))
-        ∙ ap (λ z. number_from_digits Q.levels (take k (shown Q cells cs run)) * Q.levels + z) (get_or-map (at Q cells run) cs k 0 0 h)
-
-    pub front_lt : (run k : ℕ) → run < Q.runs → number_from_digits Q.levels (take k (shown Q cells cs run)) < 65536
-    front_lt run k h =
-        let xs = take k (shown Q cells cs run) in
-        let short : length xs ≤ Q.strength = simp length-take (omega (arith, length-map cs (at Q cells run))) in
-        let few : Q.levels ^ length xs ≤ Q.levels ^ Q.strength = pow-le-pow_right (omega (arith, A.several)) short in
-        omega (arith, number_lt Q.levels xs (All-take (λ z. z < Q.levels) k (shown Q cells cs run) (shown_under cs below run h)), A.small)
+        subst (λ z. combination Q cells cs run < Q.levels ^ z) (length-map cs (at Q cells run) ∙ C.many)
+        (number_lt Q.levels (shown Q cells cs run) (shown_under cs C.below run h))
 
     -- a tuple occurs as often as its number is counted
-    pub occurs_counted : (u : List ℕ) → Tuple Q u → occurrences Q cells cs u ≡ counted Q cells cs (number_from_digits Q.levels u) Q.runs
+    occurs_counted : (u : List ℕ) → Tuple Q u → occurrences Q cells cs u ≡ counted Q cells cs (number_from_digits Q.levels u) Q.runs
     unfolding occurrences
     occurs_counted u l =
         tally_alike (λ run. same (shown Q cells cs run) u) (λ run. eqb (combination Q cells cs run) (number_from_digits Q.levels u)) Q.runs
-        (λ run h. same_number Q.levels (shown Q cells cs run) u (shown_under cs below run h) l.below (length-map cs (at Q cells run) ∙ many ∙ sym l.many))
+        (λ run h. same_number Q.levels (shown Q cells cs run) u (shown_under cs C.below run h) l.below (length-map cs (at Q cells run) ∙ C.many ∙ sym l.many))
 
     occurs_written : (m : ℕ) → m < Q.levels ^ Q.strength → occurrences Q cells cs (written Q.levels Q.strength m) ≡ counted Q cells cs m Q.runs
     occurs_written m h =
@@ -85,11 +74,11 @@ module _ {Q : Claim} {cells : List ℕ} (A : Accepted Q cells) where
         ∙ tallies_sum (combination Q cells cs) (Q.levels ^ Q.strength) Q.runs combination_lt
 
     -- where every combination passes, so does every tuple
-    pub counts_even : ((m : ℕ) → m < Q.levels ^ Q.strength → counted Q cells cs m Q.runs * Q.levels ^ Q.strength ≡ Q.runs) → Even Q cells cs
+    counts_even : ((m : ℕ) → m < Q.levels ^ Q.strength → counted Q cells cs m Q.runs * Q.levels ^ Q.strength ≡ Q.runs) → Even Q cells cs
     counts_even h u l = ap (λ z. z * Q.levels ^ Q.strength) (occurs_counted u l) ∙ h (number_from_digits Q.levels u) (tuple_lt u l)
 
     -- the first combination that does not pass
-    pub counts_fail : (m : ℕ) (f : Failure) → m < Q.levels ^ Q.strength
+    counts_fail : (m : ℕ) (f : Failure) → m < Q.levels ^ Q.strength
         → (counted Q cells cs m Q.runs * Q.levels ^ Q.strength ≡ Q.runs → ⊥)
         → ((k : ℕ) → k < m → counted Q cells cs k Q.runs * Q.levels ^ Q.strength ≡ Q.runs)
         → f.columns ≡ sum_by (λ c. 2 ^ c) cs → f.combination ≡ m → f.count ≡ counted Q cells cs m Q.runs
@@ -105,3 +94,29 @@ module _ {Q : Claim} {cells : List ℕ} (A : Accepted Q cells) where
           combination = is ∙ sym number_is;
           count = many' ∙ sym (occurs_written m h);
         }
+
+    -- the columns as bits, and what the search among the counters says
+    pub bits_fit : sum_by (λ c. 2 ^ c) cs < 2 ^ 32
+    bits_fit =
+        let each : AllByRecursion (λ c. 2 ^ c ≤ 65536) cs = All-weaker (λ c. c < Q.factors) (λ c. 2 ^ c ≤ 65536) (λ c h. let low : c ≤ 16 = omega (arith, A.narrow) in pow_mono low) cs C.below in
+        omega (arith, sum_by_le (λ c. 2 ^ c) 65536 cs each, C.many, A.meets, A.narrow)
+
+    module _ (xs : List ℕ) (long : length xs ≡ Q.levels ^ Q.strength) (counts : (m : ℕ) → m < Q.levels ^ Q.strength → get_or xs m 0 ≡ counted Q cells cs m Q.runs) where
+      abbrev off : ℕ → Bool
+      off n = not (eqb (n * length xs) Q.runs)
+
+      share : (m : ℕ) → m < Q.levels ^ Q.strength → get_or xs m 0 * length xs ≡ counted Q cells cs m Q.runs * Q.levels ^ Q.strength
+      share m h = ap (λ z. z * length xs) (counts m h) ∙ ap (λ z. counted Q cells cs m Q.runs * z) long
+
+      -- a counter that is not off has its share
+      fair : (m : ℕ) → m < Q.levels ^ Q.strength → off (get_or xs m 0) ≡ false → counted Q cells cs m Q.runs * Q.levels ^ Q.strength ≡ Q.runs
+      fair m h e = sym (share m h) ∙ eqb-true (get_or xs m 0 * length xs) Q.runs (not-false (eqb (get_or xs m 0 * length xs) Q.runs) e)
+
+      pub none_off : None ≡ position off xs → Even Q cells cs
+      none_off e = counts_even (λ m h. fair m h (none_below (λ k. off (get_or xs k 0)) (length xs) (sought_by_position off (λ k. off (get_or xs k 0)) xs 0 (λ k l. refl) None e) m (omega arith)))
+
+      pub first_off : (m : ℕ) (f : Failure) → Some m ≡ position off xs → f.columns ≡ sum_by (λ c. 2 ^ c) cs → f.combination ≡ m → f.count ≡ get_or xs m 0 → Fails Q cells cs f
+      first_off m f e bits is count =
+          let at = position-Some off xs m 0 (sym e) in
+          let low : m < Q.levels ^ Q.strength = omega (arith, at.0) in
+          counts_fail m f low (λ b. both_ways (off (get_or xs m 0)) (not_from_true _ (eq-eqb (get_or xs m 0 * length xs) Q.runs (share m low ∙ b))) at.1) (λ k h. fair k (omega arith) (at.2 k h)) bits is (count ∙ counts m low)

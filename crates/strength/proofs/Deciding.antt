@@ -1,7 +1,8 @@
 -- From the search through all choices to the verdict. Assumes nothing.
 use Rattle.std.proofs.Common.{◌≡◌, ℕ, ◌*◌, ◌/◌, ◌^◌, ◌<◌, ◌≤◌, ◌≢◌, List, [], ◌∷◌, map, length, None, sym, ap, ◌∙◌, subst, arith}
 use native.Mathlib.Nat.{div-eq_of_eq-mul_left, one-le-pow}
-use Rattle.std.specs.List.{AllByRecursion}
+use Rattle.std.specs.List.{AllByRecursion, zip}
+use Rattle.std.proofs.lemmas.Slice.Zip.{firsts-zip, seconds-zip}
 use Rattle.std.proofs.ByRecursion.{All-weaker}
 use Rattle.strength.specs.declared.claim.Claim.{Claim}
 use Rattle.strength.specs.declared.claim.Failure.{Failure}
@@ -12,34 +13,34 @@ use Rattle.strength.specs.Refusals.{Accepted}
 use Rattle.strength.specs.Steps.{Rest, Found, Search}
 use Rattle.strength.proofs.Tallies.{tally_alike}
 use Rattle.strength.proofs.Balance.{alike_passes}
-use Rattle.strength.proofs.Sorting.{Pairs, columns_of, levels_of, zipped, sorted, columns_zipped, levels_zipped, sorted_all, sorted_length, sorted_rising, sorted_same}
+use Rattle.strength.proofs.Sorting.{Pairs, columns_of, levels_of, sorted, sorted_all, sorted_length, sorted_rising, sorted_same}
 
 rising_different : (cs : List ℕ) → Rising cs → Different cs
 rising_different [] r = tt
 rising_different (c ∷ cs) r = (All-weaker (λ k. c < k) (λ k. c ≢ k) (λ k h e. omega arith) cs r.0, rising_different cs r.1)
 
-pub choice_columns : {Q : Claim} {cs : List ℕ} → Choice Q cs → Columns Q cs
+choice_columns : {Q : Claim} {cs : List ℕ} → Choice Q cs → Columns Q cs
 choice_columns {Q} {cs} C = record { many = C.many; below = C.below; different = rising_different cs C.rising }
 
 module _ {Q : Claim} {cells : List ℕ} (A : Accepted Q cells) where
   -- where a tuple fails at a choice, tuples do not occur equally often
-  pub no_array : (cs : List ℕ) (f : Failure) → Choice Q cs → Fails Q cells cs f → (index : ℕ) → OrthogonalArray Q cells index → ⊥
+  no_array : (cs : List ℕ) (f : Failure) → Choice Q cs → Fails Q cells cs f → (index : ℕ) → OrthogonalArray Q cells index → ⊥
   no_array cs f C F index O =
       let all : (u : List ℕ) → Tuple Q u → occurrences Q cells cs u ≡ index = λ u l. O.balanced cs u (choice_columns C) l in
-      F.fails (ap (λ z. z * Q.levels ^ Q.strength) (all F.tuple F.levels) ∙ alike_passes A cs C.many C.below index all)
+      F.fails (ap (λ z. z * Q.levels ^ Q.strength) (all F.tuple F.levels) ∙ alike_passes A C index all)
 
   -- where all tuples pass at all choices, they do at any different columns
   module _ (even : (cs : List ℕ) → Choice Q cs → Even Q cells cs) (cs u : List ℕ) (C : Columns Q cs) (T : Tuple Q u) where
     pairs : Pairs
-    pairs = zipped cs u
+    pairs = zip cs u
 
     columns_is : columns_of pairs ≡ cs
     unfolding pairs
-    columns_is = columns_zipped cs u (C.many ∙ sym T.many)
+    columns_is = firsts-zip cs u (T.many ∙ sym C.many)
 
     levels_is : levels_of pairs ≡ u
     unfolding pairs
-    levels_is = levels_zipped cs u (C.many ∙ sym T.many)
+    levels_is = seconds-zip cs u (T.many ∙ sym C.many)
 
     sorted_choice : Choice Q (columns_of (sorted pairs))
     sorted_choice =
@@ -70,7 +71,7 @@ module _ {Q : Claim} {cells : List ℕ} (A : Accepted Q cells) where
     any_passes =
         ap (λ z. z * Q.levels ^ Q.strength) occurs_sorted ∙ even (columns_of (sorted pairs)) sorted_choice (levels_of (sorted pairs)) sorted_tuple
 
-  pub all_even : ((cs : List ℕ) → Choice Q cs → Even Q cells cs) → OrthogonalArray Q cells (Q.runs / Q.levels ^ Q.strength)
+  all_even : ((cs : List ℕ) → Choice Q cs → Even Q cells cs) → OrthogonalArray Q cells (Q.runs / Q.levels ^ Q.strength)
   all_even even =
       record {
         sized = A.sized;
@@ -91,10 +92,10 @@ module _ {Q : Claim} {cells : List ℕ} (A : Accepted Q cells) where
         rising = C.rising;
       }
 
-  pub right_yes : (index : ℕ) → index ≡ Q.runs / Q.levels ^ Q.strength → Search Q cells [] 0 0 None → Right Q cells (Yes index)
+  pub right_yes : (index : ℕ) → index ≡ Q.runs / Q.levels ^ Q.strength → Search Q cells [] 0 None → Right Q cells (Yes index)
   right_yes index e none = (e, subst (OrthogonalArray Q cells) (sym e) (all_even (λ cs C. none cs (choice_rest C))))
 
-  pub right_no : (f : Failure) → Found Q cells [] 0 0 f → Right Q cells (No f)
+  pub right_no : (f : Failure) → Found Q cells [] 0 f → Right Q cells (No f)
   right_no f F = (
     record {
       columns = F.columns;

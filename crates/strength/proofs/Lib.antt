@@ -1,4 +1,4 @@
-pub mod Cells
+pub mod Rows
 pub mod Refusing
 pub mod Tuples
 pub mod Tallies

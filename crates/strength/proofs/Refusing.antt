@@ -1,10 +1,12 @@
 -- Which row of the refusal table a check is given, in the order of its tests. Assumes nothing.
-use Rattle.std.proofs.Common.{◌≡◌, ℕ, zero, suc, ◌*◌, ◌^◌, ◌<◌, ◌≤◌, false, not, ◌||◌, eqb, ltb, leb, List, [], ◌∷◌, length, get_or, take, drop, Some, None, refl, ap, ◌∙◌, ⊎_elim, arith}
+use Rattle.std.proofs.Common.{◌≡◌, ℕ, zero, suc, ◌*◌, ◌^◌, ◌<◌, ◌≤◌, false, ltb, leb, List, [], ◌∷◌, length, get_or, take, drop, Some, None, Option, refl, ap, ◌∙◌, arith}
 use Rattle.std.specs.List.{AllByRecursion}
 use Rattle.std.proofs.ByRecursion.{All-from_get_or}
-use Rattle.std.proofs.lemmas.Bool.{lt-ltb, le-ltb, leb-false, eq-eqb, ne_eqb, or_from, or_left, or_right, not_from_true, not_from_false, cases_eq, cond-true, cond-false}
+use Rattle.std.proofs.lemmas.Bool.{lt-ltb, le-ltb, leb-false, eq-eqb, ne_eqb, or_from, not_from_true, cond-true, cond-false}
 use Rattle.refusal.specs.declared.Layer.TheVariants as layer
-use Rattle.refusal.specs.Table.{Row, refusal, first}
+use Rattle.std.specs.List.{position}
+use Rattle.refusal.specs.Table.{Row, refusal, first, Sought}
+use Rattle.refusal.proofs.Sought.{sought_by_position}
 use Rattle.refusal.proofs.Places.{none_below}
 use Rattle.strength.specs.declared.claim.Claim.{Claim}
 use Rattle.strength.specs.Refusals.{check_rows, Accepted}
@@ -44,17 +46,6 @@ module _ (Q : Claim) (cells : List ℕ) (n : ℕ) (N : Numbers Q) where
         ),
       )
 
-  pub memory_refused : (length cells ≡ Q.runs * Q.factors → n ≡ Q.levels ^ Q.strength → ⊥)
-      → refusal (check_rows Q cells n) ≡ Some (record { number = 6; layer = layer.Checker; place = 0 })
-  memory_refused h =
-      numbers_pass
-      ∙ cond-true (not (eqb (length cells) (Q.runs * Q.factors)) || not (eqb n (Q.levels ^ Q.strength)))
-      (Some (record { number = 6; layer = layer.Checker; place = 0 })) (refusal (drop 5 (check_rows Q cells n)))
-      (⊎_elim
-      (λ e. or_right (not (eqb (length cells) (Q.runs * Q.factors))) _ (not_from_false _ (ne_eqb n (Q.levels ^ Q.strength) (h e))))
-      (λ d. or_left _ (not (eqb n (Q.levels ^ Q.strength))) (not_from_false _ (ne_eqb (length cells) (Q.runs * Q.factors) d)))
-      (cases_eq (length cells) (Q.runs * Q.factors)))
-
   module _ (sized : length cells ≡ Q.runs * Q.factors) (counted : n ≡ Q.levels ^ Q.strength) where
     memory_pass : refusal (check_rows Q cells n) ≡ refusal (drop 5 (check_rows Q cells n))
     memory_pass =
@@ -62,31 +53,35 @@ module _ (Q : Claim) (cells : List ℕ) (n : ℕ) (N : Numbers Q) where
         ∙ skip 1 (drop 4 (check_rows Q cells n))
         (or_from _ _ (not_from_true _ (eq-eqb (length cells) (Q.runs * Q.factors) sized)) (not_from_true _ (eq-eqb n (Q.levels ^ Q.strength) counted)), tt)
 
-    pub cell_refused : (k : ℕ) → k < length cells → first (λ i. leb Q.levels (get_or cells i 0)) (length cells) ≡ k
+    sought : (r : Option ℕ) → r ≡ position (leb Q.levels) cells → Sought (λ k. leb Q.levels (get_or cells k 0)) (length cells) r
+    sought r e = sought_by_position (leb Q.levels) (λ k. leb Q.levels (get_or cells k 0)) cells 0 (λ k h. refl) r e
+
+    pub cell_refused : (k : ℕ) → Some k ≡ position (leb Q.levels) cells
         → refusal (check_rows Q cells n) ≡ Some (record { number = 9; layer = layer.Checker; place = k })
-    cell_refused k h e =
+    cell_refused k e =
+        let found = sought (Some k) e in
         memory_pass
         ∙ cond-true (ltb (first (λ i. leb Q.levels (get_or cells i 0)) (length cells)) (length cells))
         (Some (record { number = 9; layer = layer.Checker; place = first (λ i. leb Q.levels (get_or cells i 0)) (length cells) })) None
-        (lt-ltb (first (λ i. leb Q.levels (get_or cells i 0)) (length cells)) (length cells) (omega arith))
-        ∙ ap (λ p. Some (record { number = 9; layer = layer.Checker; place = p })) e
+        (lt-ltb (first (λ i. leb Q.levels (get_or cells i 0)) (length cells)) (length cells) (omega (arith, found.0, found.1)))
+        ∙ ap (λ p. Some (record { number = 9; layer = layer.Checker; place = p })) found.1
 
-    pub none_refused : first (λ i. leb Q.levels (get_or cells i 0)) (length cells) ≡ length cells
-        → (refusal (check_rows Q cells n) ≡ None) × (Accepted Q cells × (n ≡ Q.levels ^ Q.strength))
-    none_refused e = (
-      memory_pass ∙ skip 1 (drop 5 (check_rows Q cells n)) (le-ltb (first (λ i. leb Q.levels (get_or cells i 0)) (length cells)) (length cells) (omega arith), tt),
-      (
-        record {
-          several = N.several;
-          few = N.few;
-          narrow = N.narrow;
-          strong = N.strong;
-          meets = N.meets;
-          short = N.short;
-          sized = sized;
-          small = N.small;
-          levels = All-from_get_or (λ l. l < Q.levels) cells 0 (λ i h. leb-false Q.levels (get_or cells i 0) (none_below (λ j. leb Q.levels (get_or cells j 0)) (length cells) e i h));
-        },
-        counted,
-      ),
-    )
+    module _ (e : None ≡ position (leb Q.levels) cells) where
+      pub none_refused : refusal (check_rows Q cells n) ≡ None
+      none_refused =
+          memory_pass
+          ∙ skip 1 (drop 5 (check_rows Q cells n)) (le-ltb (first (λ i. leb Q.levels (get_or cells i 0)) (length cells)) (length cells) (omega (arith, sought None e)), tt)
+
+      pub accepted : Accepted Q cells
+      accepted =
+          record {
+            several = N.several;
+            few = N.few;
+            narrow = N.narrow;
+            strong = N.strong;
+            meets = N.meets;
+            short = N.short;
+            sized = sized;
+            small = N.small;
+            levels = All-from_get_or (λ l. l < Q.levels) cells 0 (λ i h. leb-false Q.levels (get_or cells i 0) (none_below (λ j. leb Q.levels (get_or cells j 0)) (length cells) (sought None e) i h));
+          }

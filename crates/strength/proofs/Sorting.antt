@@ -16,11 +16,6 @@ columns_of ps = map (λ p. p.0) ps
 abbrev pub levels_of : Pairs → List ℕ
 levels_of ps = map (λ p. p.1) ps
 
-abbrev pub zipped : List ℕ → List ℕ → Pairs
-zipped [] us = []
-zipped (c ∷ cs) [] = []
-zipped (c ∷ cs) (u ∷ us) = (c, u) ∷ zipped cs us
-
 abbrev pub put : ℕ × ℕ → Pairs → Pairs
 put p [] = p ∷ []
 put p (q ∷ qs) = cond (ltb p.0 q.0) (p ∷ q ∷ qs) (q ∷ put p qs)
@@ -28,17 +23,6 @@ put p (q ∷ qs) = cond (ltb p.0 q.0) (p ∷ q ∷ qs) (q ∷ put p qs)
 abbrev pub sorted : Pairs → Pairs
 sorted [] = []
 sorted (p ∷ ps) = put p (sorted ps)
-
-pub columns_zipped : (cs us : List ℕ) → length cs ≡ length us → columns_of (zipped cs us) ≡ cs
-columns_zipped [] us e = refl
-columns_zipped (c ∷ cs) [] e = absurd (omega arith)
-columns_zipped (c ∷ cs) (u ∷ us) e = ap (λ zs. c ∷ zs) (columns_zipped cs us (omega arith))
-
-pub levels_zipped : (cs us : List ℕ) → length cs ≡ length us → levels_of (zipped cs us) ≡ us
-levels_zipped [] [] e = refl
-levels_zipped [] (u ∷ us) e = absurd (omega arith)
-levels_zipped (c ∷ cs) [] e = absurd (omega arith)
-levels_zipped (c ∷ cs) (u ∷ us) e = ap (λ zs. u ∷ zs) (levels_zipped cs us (omega arith))
 
 -- what holds of each pair still does
 put_all : (f : ℕ × ℕ → ℕ) (P : ℕ → Type 0) (p : ℕ × ℕ) (qs : Pairs) → P (f p) → AllByRecursion P (map f qs) → AllByRecursion P (map f (put p qs))

@@ -7,10 +7,9 @@ ghost use Rattle.strength.specs.Verdicts.{Right};
 
 use crate::cell::Levelled;
 use crate::claim::{Claim, Verdict};
-use crate::counting::clear;
 use crate::fault::CheckerFault;
 use crate::refuse::accept;
-use crate::search::first_failure;
+use arrayvec::ArrayVec;
 
 // Whether the table is the orthogonal array that is claimed, with one counter for each combination of levels.
 pub fn check<C: Levelled>(
@@ -21,14 +20,13 @@ pub fn check<C: Levelled>(
     ensures answer { Answers checker_slip (check_rows claim (map C.Levelled.level table.now) (length counters.old)) (Right claim (map C.Levelled.level table.now)) result }
     ensures counters { MatchResult result (λ _. counters.new ≡ replicate (length counters.old) 0) (λ _. counters.new ≡ counters.old) }
 {
-    accept(claim, table, counters.len())?;
-    clear(counters);
-    let mut memory = [0; 17];
-    let columns = &mut memory[0..claim.strength as usize];
-    match first_failure(claim, table, counters, columns, 0, 0) {
-        Some(failure) => Ok(Verdict::No(failure)),
-        None => Ok(Verdict::Yes {
+    let checked = accept(claim, table, counters.len())?;
+    let failure = checked.first_failure(&mut ArrayVec::new(), 0, counters);
+    counters.fill(0);
+    Ok(match failure {
+        Some(failure) => Verdict::No(failure),
+        None => Verdict::Yes {
             index: claim.runs / counters.len() as u32,
-        }),
-    }
+        },
+    })
 }

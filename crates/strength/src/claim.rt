@@ -20,6 +20,7 @@ pub struct Failure {
     pub count: u32,
 }
 
+// Kept: both verdicts answer the question, so a no is no failure of the check.
 #[derive(Clone, Copy, Debug, PartialEq, Eq)]
 pub enum Verdict {
     // an orthogonal array: any combination of levels at `strength` columns comes `index` times

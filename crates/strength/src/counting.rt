@@ -1,62 +1,87 @@
-// How often each combination of levels occurs at some columns.
-ghost use Rattle.std.specs.Prelude.{◌≡◌, ℕ, ◌^◌, ◌<◌, ◌≤◌, map, length, replicate, MatchOption, slice_index};
-ghost use Rattle.strength.specs.Refusals.{Accepted};
-ghost use Rattle.strength.specs.Verdicts.{Choice};
-ghost use Rattle.strength.specs.Steps.{combination, counted, Share};
+// How often each combination of levels occurs at a choice of columns, and how the choice fails.
+ghost use Rattle.std.specs.Prelude.{◌≡◌, ℕ, ◌*◌, ◌^◌, ◌<◌, ◌≤◌, not, ◌==◌, map, length, position, sum_by, slice_index, MatchOption};
+ghost use Rattle.std.specs.List.{All, AllByRecursion};
+ghost use Rattle.std.proofs.Props.{props};
+ghost use Rattle.strength.specs.Verdicts.{Choice, Even, Fails};
+ghost use Rattle.strength.specs.Steps.{Rising-prop, read, counted};
 
 use crate::cell::Levelled;
-use crate::claim::Claim;
+use crate::claim::Failure;
+use crate::refuse::Checked;
 
-// The combination that a run has at the columns, the first column highest.
-fn combination_of<C: Levelled>(claim: Claim, table: &[C], run: u32, columns: &[usize]) -> usize
-    requires accepted { Accepted claim (map C.Levelled.level table.now) }
-    requires choice { Choice claim columns.now }
-    requires within { run < claim.runs }
-    ensures value { result ≡ combination claim (map C.Levelled.level table.now) columns.now run }
-    ensures below { result < claim.levels ^ claim.strength }
-{
-    let start = run as usize * claim.factors as usize;
-    let mut n = 0;
-    for k in 0..columns.len() {
-        n = n * claim.levels + table[start + columns[k]].level();
-    }
-    n as usize
+// A checked table with a choice of its columns.
+#[derive(Drop)]
+pub(crate) struct Chosen<'a, C: Levelled> {
+    pub(crate) checked: &'a Checked<'a, C>,
+    pub(crate) columns: &'a [usize],
+    ghost choice: { Choice checked.now.claim columns.now } by { Prim.hlevel (props, Rising-prop) },
 }
 
-// Counts the runs by their combination at the columns, from counters that are all 0.
-pub(crate) fn count_runs<C: Levelled>(
-    claim: Claim,
-    table: &[C],
-    columns: &[usize],
-    counters: &mut [u32],
-)
-    requires accepted { Accepted claim (map C.Levelled.level table.now) }
-    requires choice { Choice claim columns.now }
-    requires clear { counters.old ≡ replicate (claim.levels ^ claim.strength) 0 }
-    ensures counters { (m : ℕ) → m < claim.levels ^ claim.strength → slice_index counters.new m ≡ counted claim (map C.Levelled.level table.now) columns.now m claim.runs }
-{
-    for run in 0..claim.runs {
-        let m = combination_of(claim, table, run, columns);
-        counters[m] += 1;
+// Kept: the counters stand beside a choice, since a struct that held them too would have to say in each contract that claim and table stay.
+impl<C: Levelled> Chosen<'_, C> {
+    // The combination that a run has at the columns, the first column highest.
+    fn combination_of(&self, run: &[C]) -> usize
+        requires sized { length run.now ≡ self.now.checked.now.claim.factors }
+        requires levels { AllByRecursion (λ l. l < self.now.checked.now.claim.levels) (map C.Levelled.level run.now) }
+        ensures value { result ≡ read self.now.checked.now.claim (map C.Levelled.level run.now) self.now.columns.now }
+        ensures below { let Q = self.now.checked.now.claim in result < Q.levels ^ Q.strength }
+    {
+        let mut n = 0;
+        for column in self.columns {
+            n = n * self.checked.claim.levels + run[*column].level();
+        }
+        n as usize
+    }
+
+    // Counts the runs by their combination at the columns.
+    fn count_runs(&self, counters: &mut [u32])
+        requires { let Q = self.now.checked.now.claim in length counters.old ≡ Q.levels ^ Q.strength }
+        ensures { let Q = self.now.checked.now.claim in (m : ℕ) → m < Q.levels ^ Q.strength → slice_index counters.new m ≡ counted Q (map C.Levelled.level self.now.checked.now.table.now) self.now.columns.now m Q.runs }
+    {
+        let Checked { claim, table } = self.checked;
+        counters.fill(0);
+        for run in table.chunks_exact(claim.factors as usize) {
+            counters[self.combination_of(run)] += 1;
+        }
+    }
+
+    // How these columns fail, if they do.
+    pub(crate) fn failure_at(&self, counters: &mut [u32]) -> Option<Failure>
+        requires { let Q = self.now.checked.now.claim in length counters.old ≡ Q.levels ^ Q.strength }
+        ensures { let cells = map C.Levelled.level self.now.checked.now.table.now in MatchOption result (Even self.now.checked.now.claim cells self.now.columns.now) (λ f. Fails self.now.checked.now.claim cells self.now.columns.now f) }
+    {
+        self.count_runs(counters);
+        let m = uneven(counters, self.checked.claim.runs)?;
+        Some(Failure {
+            columns: bits_of(self.columns),
+            combination: m as u32,
+            count: counters[m],
+        })
     }
 }
 
 // The first combination whose count, times the number of combinations, is not the number of runs.
-pub(crate) fn uneven(counters: &[u32], runs: u32) -> Option<usize>
+fn uneven(counters: &[u32], runs: u32) -> Option<usize>
     requires { length counters.now ≤ 65536 }
-    ensures { MatchOption result ((k : ℕ) → k < length counters.now → Share counters.now runs k) (λ m. (m < length counters.now) × (Share counters.now runs m → ⊥) × ((k : ℕ) → k < m → Share counters.now runs k)) }
+    ensures { result ≡ position (λ count. not (count * length counters.now == runs)) counters.now }
 {
-    for m in 0..counters.len() {
-        if counters[m] as u64 * counters.len() as u64 != runs as u64 {
-            return Some(m);
-        }
-    }
-    None
+    let combinations = counters.len() as u64;
+    counters.iter().position(|count| u64::from(*count) * combinations != u64::from(runs))
 }
 
-// Sets every counter to 0.
-pub(crate) fn clear(counters: &mut [u32])
-    ensures { counters.new ≡ replicate (length counters.old) 0 }
+// The columns as one number, with bit k set for column k.
+fn bits_of(columns: &[usize]) -> u32
+    requires low { All (λ c. c < 17) columns.now }
+    requires fits { sum_by (λ c. 2 ^ c) columns.now < 2 ^ 32 }
+    ensures { result ≡ sum_by (λ c. 2 ^ c) columns.now }
 {
-    counters.fill(0);
+    columns.iter().map(|column| bit(*column)).sum()
+}
+
+// The number with that bit alone.
+fn bit(k: usize) -> u32
+    requires { k < 17 }
+    ensures { result ≡ 2 ^ k }
+{
+    1 << k
 }

@@ -1,6 +1,7 @@
 // Which tables are not checked.
-ghost use Rattle.std.specs.Prelude.{◌≡◌, ◌^◌, map, length, nat_le, slice_index};
-ghost use Rattle.refusal.specs.Table.{Answers, Sought};
+ghost use Rattle.std.specs.Prelude.{◌≡◌, ◌^◌, map, position, nat_le};
+ghost use Rattle.std.proofs.Props.{props};
+ghost use Rattle.refusal.specs.Table.{Answers};
 ghost use Rattle.strength.specs.Faults.{checker_slip};
 ghost use Rattle.strength.specs.Refusals.{check_rows, Accepted};
 
@@ -9,16 +10,22 @@ use crate::claim::Claim;
 use crate::fault::CheckerFault;
 use numbers::power;
 
+// A table that no row of the refusal table turns away, with what is claimed of it.
+#[derive(Drop)]
+pub(crate) struct Checked<'a, C: Levelled> {
+    pub(crate) claim: Claim,
+    pub(crate) table: &'a [C],
+    ghost accepted: { Accepted claim (map C.Levelled.level table.now) } by { Prim.hlevel props },
+}
+
 // The first cell that has no level of the array.
 fn unknown_level<C: Levelled>(table: &[C], levels: u32) -> Option<usize>
-    ensures { Sought (λ k. nat_le levels (slice_index (map C.Levelled.level table.now) k)) (length (map C.Levelled.level table.now)) result }
+    ensures { result ≡ position (λ level. nat_le levels level) (map C.Levelled.level table.now) }
 {
-    for k in 0..table.len() {
-        if table[k].level() >= levels {
-            return Some(k);
-        }
-    }
-    None
+    table
+        .iter()
+        .map(|cell| cell.level())
+        .position(|level| level >= levels)
 }
 
 // Refuses what the refusal table says, with so many counters.
@@ -26,8 +33,8 @@ pub(crate) fn accept<C: Levelled>(
     claim: Claim,
     table: &[C],
     counters: usize,
-) -> Result<(), CheckerFault>
-    ensures { Answers checker_slip (check_rows claim (map C.Levelled.level table.now) counters) (λ _. Accepted claim (map C.Levelled.level table.now) × (counters ≡ claim.levels ^ claim.strength)) result }
+) -> Result<Checked<'_, C>, CheckerFault>
+    ensures { Answers checker_slip (check_rows claim (map C.Levelled.level table.now) counters) (λ checked. (checked.claim ≡ claim) × (checked.table.now ≡ table.now) × (counters ≡ claim.levels ^ claim.strength)) result }
 {
     if claim.levels < 2 || claim.levels > 16 {
         return Err(CheckerFault::Levels);
@@ -50,6 +57,6 @@ pub(crate) fn accept<C: Levelled>(
     }
     match unknown_level(table, claim.levels) {
         Some(k) => Err(CheckerFault::Cell(k)),
-        None => Ok(()),
+        None => Ok(Checked { claim, table }),
     }
 }

@@ -5,3 +5,4 @@ pub mod Locating
 pub mod Finding
 pub mod InPlace
 pub mod Choosing
+pub mod Parts

@@ -2,7 +2,7 @@
 use Rattle.std.proofs.Common.{◌≡◌, ℕ, ◌+◌, ◌-◌, ◌*◌, ◌<◌, ◌≤◌, List, ◌++◌, length, get_or, take, drop, sym, refl, ap, ◌∙◌, subst, ⊎_elim, add-zero, add-mul, one-mul, zero-add, zero-mul, arith, length-drop}
 use lib.Arith.{digits_lt}
 use borrow.Rule.Slice.PartMut.{put_mid, same_len_mid}
-use Rattle.std.proofs.lemmas.List.{get_or_append_left, get_or-append_right, get_or-take, get_or-drop, length-take-le}
+use Rattle.std.proofs.lemmas.List.{get_or_past, get_or_append_left, get_or-append_right, get_or-take, get_or-drop, length-take-le}
 use Rattle.std.proofs.lemmas.Bool.{cases_lt}
 use Rattle.levels.specs.Rings.{Arithmetic}
 use Rattle.shuffle.specs.Ways.{Ways}
@@ -17,20 +17,19 @@ module _ {P : Plan} {R : Arithmetic} {W : Ways} where
   none_written first start xs = record { cells = λ k j hk hj. absurd (omega arith); under = λ p h. refl; over = λ p h. refl; sized = refl }
 
   -- the cells of one label are one row
-  pub row_written : (label at : ℕ) (xs ys : List Cell) → length ys ≡ length xs
-      → ((j : ℕ) → j < P.factors → get_or ys (at + j) blank ≡ cell_at P R W (index P W label) j)
-      → ((p : ℕ) → p < at → get_or ys p blank ≡ get_or xs p blank)
-      → ((p : ℕ) → at + P.factors ≤ p → get_or ys p blank ≡ get_or xs p blank)
-      → Written P R W label 1 at xs ys
-  row_written label at xs ys e row before behind =
+  pub row_written : (label : ℕ) (xs ys : List Cell) → length xs ≡ P.factors → length ys ≡ P.factors
+      → ((j : ℕ) → j < P.factors → get_or ys j blank ≡ cell_at P R W (index P W label) j)
+      → Written P R W label 1 0 xs ys
+  row_written label xs ys x y row =
       record {
         cells = λ k j hk hj.
             let z : k ≡ 0 = omega arith in
-            subst (λ k. get_or ys (at + (k * P.factors + j)) blank ≡ cell_at P R W (index P W (label + k)) j) (sym z)
-            (rw (zero-mul P.factors, zero-add j, add-zero label) (row j hj));
-        under = before;
-        over = λ p h. behind p (omega (arith, one-mul P.factors));
-        sized = e;
+            subst (λ k. get_or ys (0 + (k * P.factors + j)) blank ≡ cell_at P R W (index P W (label + k)) j) (sym z)
+            (rw (zero-mul P.factors, zero-add j, zero-add j, add-zero label) (row j hj));
+        under = λ p h. absurd (omega arith);
+        over = λ p h.
+            get_or_past ys p blank (omega (arith, one-mul P.factors)) ∙ sym (get_or_past xs p blank (omega (arith, one-mul P.factors)));
+        sized = y ∙ sym x;
       }
 
   -- one row more

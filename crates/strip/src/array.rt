@@ -8,12 +8,22 @@ ghost use Rattle.strip.specs.Rows.{count_row};
 use crate::cell::Strip;
 use crate::fault::StripFault;
 use crate::find::gather_inverses;
+use crate::labels::Labels;
 use levels::arithmetic::Dividing;
 use plan::shape::Plan;
 use shuffle::Shuffler;
 
-// Where the arithmetic has the plan's count: any t different factors with a level each name exactly one label,
-// and so does a factor with a fine setting. It asks the arithmetic for every inverse, and nothing else.
+impl<R: Dividing, S: Shuffler> Labels<'_, R, S> {
+    // Any t different factors with a level each name exactly one label, and so does a factor with a fine setting.
+    // It asks the arithmetic for every inverse, and nothing else.
+    pub fn orthogonal(&self)
+        ensures { Exact self.now.plan (R.Ring.ring self.now.ring.now) (S.Shuffler.ways self.now.shuffler.now) }
+    {
+        gather_inverses(self.ring);
+    }
+}
+
+// The same of a plan, an arithmetic and a shuffler, where the arithmetic has the plan's count.
 pub fn orthogonal<R: Dividing, S: Shuffler>(
     plan: Plan,
     ring: &R,
@@ -21,10 +31,7 @@ pub fn orthogonal<R: Dividing, S: Shuffler>(
 ) -> Result<(), StripFault>
     ensures { Answers strip_slip (count_row plan (R.Ring.ring ring.now) ∷ []) (λ _. Exact plan (R.Ring.ring ring.now) (S.Shuffler.ways shuffler.now)) result }
 {
-    if ring.count() != plan.levels {
-        return Err(StripFault::Count);
-    }
-    gather_inverses(ring);
+    Labels::of(plan, ring, shuffler)?.orthogonal();
     Ok(())
 }
 
@@ -33,10 +40,6 @@ impl<R: Dividing, S: Shuffler> Strip<R, S> {
     pub fn orthogonal(&self) -> Result<(), StripFault>
         ensures { Answers strip_slip (count_row self.now.plan (R.Ring.ring self.now.ring) ∷ []) (λ _. Exact self.now.plan (R.Ring.ring self.now.ring) (S.Shuffler.ways self.now.shuffler)) result }
     {
-        if self.ring.count() != self.plan.levels {
-            return Err(StripFault::Count);
-        }
-        gather_inverses(&self.ring);
-        Ok(())
+        orthogonal(self.plan, &self.ring, &self.shuffler)
     }
 }

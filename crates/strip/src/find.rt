@@ -1,5 +1,6 @@
 // Find: from t wishes back to the one label that has them all, by interpolation over any ring that divides.
-ghost use Rattle.std.specs.Prelude.{◌≡◌, ℕ, ◌<◌, ◌≤◌, List, ◌∷◌, length, nat_le};
+ghost use Rattle.std.specs.Prelude.{◌≡◌, ◌==◌, ℕ, ◌<◌, ◌≤◌, List, ◌∷◌, length, nat_le};
+ghost use Rattle.std.specs.List.{list_any, position};
 ghost use Rattle.refusal.specs.Table.{Answers, Sought};
 ghost use Rattle.algebra.specs.Units.{Divides};
 ghost use Rattle.algebra.specs.Interpolation.{slopes, rebuild, interp};
@@ -10,54 +11,43 @@ ghost use Rattle.strip.specs.Wishes.{factor_of, level_of, repeats, points_of, va
 
 use crate::cell::Strip;
 use crate::fault::StripFault;
-use crate::label::{level_key, point};
+use crate::label::{LEVELS, key, point};
+use crate::labels::Labels;
 use crate::wish::Wish;
+use arrayvec::ArrayVec;
 use levels::arithmetic::{Dividing, Ring};
+use plan::shape::Plan;
 use shuffle::Shuffler;
 
+// Kept: two searches of one line, since one for both would take what to read of a wish and be no shorter.
 // The first wish that names no factor of the strip.
 fn unknown_factor(wishes: &[Wish], factors: u32) -> Option<usize>
-    ensures { Sought (λ k. nat_le factors (factor_of wishes.now k)) (length wishes.now) result }
+    ensures { result ≡ position (λ w. nat_le factors w.factor) wishes.now }
 {
-    for (k, wish) in wishes.iter().enumerate() {
-        if wish.factor >= factors {
-            return Some(k);
-        }
-    }
-    None
+    wishes.iter().position(|wish| wish.factor >= factors)
 }
 
 // The first wish that names no level of the strip.
 fn unknown_level(wishes: &[Wish], levels: u32) -> Option<usize>
-    ensures { Sought (λ k. nat_le levels (level_of wishes.now k)) (length wishes.now) result }
+    ensures { result ≡ position (λ w. nat_le levels w.level) wishes.now }
 {
-    for (k, wish) in wishes.iter().enumerate() {
-        if wish.level >= levels {
-            return Some(k);
-        }
-    }
-    None
+    wishes.iter().position(|wish| wish.level >= levels)
 }
 
-// Whether one of the first k wishes names this factor.
-fn named_before(wishes: &[Wish], k: usize) -> bool
-    requires { k < length wishes.now }
-    ensures { result ≡ repeats wishes.now k }
+// Whether one of these wishes names the factor.
+fn names(wishes: &[Wish], factor: u32) -> bool
+    ensures { result ≡ list_any (λ w. w.factor == factor) wishes.now }
 {
-    for m in 0..k {
-        if wishes[m].factor == wishes[k].factor {
-            return true;
-        }
-    }
-    false
+    wishes.iter().any(|wish| wish.factor == factor)
 }
 
 // The first wish that names the factor of an earlier one.
 fn repeated(wishes: &[Wish]) -> Option<usize>
     ensures { Sought (repeats wishes.now) (length wishes.now) result }
 {
-    for k in 0..wishes.len() {
-        if named_before(wishes, k) {
+    // Kept: a loop that returns, as the test of a wish reads those before it, which no chain over the wishes hands on.
+    for (k, wish) in wishes.iter().enumerate() {
+        if names(&wishes[..k], wish.factor) {
             return Some(k);
         }
     }
@@ -78,9 +68,10 @@ fn divide_differences<R: Dividing>(ring: &R, x: u32, v: u32, wishes: &[Wish], va
     requires { length wishes.now ≡ length values.old }
     ensures { values.new ≡ slopes (R.Ring.ring ring.now) (R.Dividing.inverse ring.now) x v (points_of wishes.now) values.old }
 {
-    for k in 0..wishes.len() {
+    // Kept: the wishes by index, since of what is written through a zip of `iter_mut` nothing is known afterwards.
+    for (k, value) in values.iter_mut().enumerate() {
         let apart = ring.difference(point(wishes[k].factor), x);
-        values[k] = ring.product(ring.difference(values[k], v), ring.inverse(apart));
+        *value = ring.product(ring.difference(*value, v), ring.inverse(apart));
     }
 }
 
@@ -88,6 +79,7 @@ fn divide_differences<R: Dividing>(ring: &R, x: u32, v: u32, wishes: &[Wish], va
 fn rebuild_coefficients<R: Ring>(ring: &R, x: u32, values: &mut [u32])
     ensures { (v : ℕ) (q : List ℕ) → values.old ≡ v ∷ q → values.new ≡ rebuild (R.Ring.ring ring.now) x v q }
 {
+    // Kept: a loop over places, since each turn writes one item out of the next, and no slice lends both at once.
     for k in 1..values.len() {
         values[k - 1] = ring.difference(values[k - 1], ring.product(x, values[k]));
     }
@@ -98,13 +90,12 @@ fn interpolate<R: Dividing>(ring: &R, wishes: &[Wish], values: &mut [u32])
     requires { length wishes.now ≡ length values.old }
     ensures { values.new ≡ interp (R.Ring.ring ring.now) (R.Dividing.inverse ring.now) (points_of wishes.now) values.old }
 {
-    if wishes.len() == 0 {
+    let Some((wish, others)) = wishes.split_first() else {
         return;
-    }
-    let x = point(wishes[0].factor);
-    let n = values.len();
-    divide_differences(ring, x, values[0], &wishes[1..n], &mut values[1..n]);
-    interpolate(ring, &wishes[1..n], &mut values[1..n]);
+    };
+    let x = point(wish.factor);
+    divide_differences(ring, x, values[0], others, &mut values[1..]);
+    interpolate(ring, others, &mut values[1..]);
     rebuild_coefficients(ring, x, values);
 }
 
@@ -113,11 +104,10 @@ fn number(base: u32, digits: &[u32]) -> u32
     requires { (1 ≤ base) × (number base digits.now ≤ 65536) }
     ensures { result ≡ number base digits.now }
 {
-    let mut n = 0;
-    for k in (0..digits.len()).rev() {
-        n = digits[k] + base * n;
+    match digits.split_first() {
+        None => 0,
+        Some((digit, rest)) => *digit + base * number(base, rest),
     }
-    n
 }
 
 impl<R: Dividing, S: Shuffler> Strip<R, S> {
@@ -125,62 +115,50 @@ impl<R: Dividing, S: Shuffler> Strip<R, S> {
     pub fn find(&self, wishes: &[Wish]) -> Result<u32, StripFault>
         ensures { Answers strip_slip (find_rows self.now.plan (R.Ring.ring self.now.ring) wishes.now) (Named self.now.plan (R.Ring.ring self.now.ring) (S.Shuffler.ways self.now.shuffler) wishes.now) result }
     {
-        let plan = self.plan;
-        if self.ring.count() != plan.levels {
-            return Err(StripFault::Count);
-        }
-        if let Some(k) = unknown_factor(wishes, plan.factors) {
+        let labels = self.labels()?;
+        if let Some(k) = unknown_factor(wishes, self.plan.factors) {
             return Err(StripFault::Factor(k));
         }
-        if let Some(k) = unknown_level(wishes, plan.levels) {
+        if let Some(k) = unknown_level(wishes, self.plan.levels) {
             return Err(StripFault::Setting(k));
         }
-        if wishes.len() != plan.strength as usize {
+        if wishes.len() != self.plan.strength as usize {
             return Err(StripFault::Wishes);
         }
         if let Some(k) = repeated(wishes) {
             return Err(StripFault::Repeated(k));
         }
-        Ok(self.label_meeting(wishes))
+        Ok(labels.label_meeting(wishes))
     }
+}
 
+impl<R: Dividing, S: Shuffler> Labels<'_, R, S> {
     // The one label that meets t wishes on different factors.
     fn label_meeting(&self, wishes: &[Wish]) -> u32
-        requires counts { (R.Ring.ring self.now.ring).count ≡ self.now.plan.levels }
         requires chosen { Chosen self.now.plan wishes.now }
-        ensures { Named self.now.plan (R.Ring.ring self.now.ring) (S.Shuffler.ways self.now.shuffler) wishes.now result }
+        ensures { Named self.now.plan (R.Ring.ring self.now.ring.now) (S.Shuffler.ways self.now.shuffler.now) wishes.now result }
     {
-        let mut memory = [0; 16];
-        self.interpolated(wishes, &mut memory[0..wishes.len()])
-    }
-
-    // The same with memory for as many coefficients as there are wishes.
-    fn interpolated(&self, wishes: &[Wish], coefficients: &mut [u32]) -> u32
-        requires counts { (R.Ring.ring self.now.ring).count ≡ self.now.plan.levels }
-        requires chosen { Chosen self.now.plan wishes.now }
-        requires sized { length wishes.now ≡ length coefficients.old }
-        ensures { Named self.now.plan (R.Ring.ring self.now.ring) (S.Shuffler.ways self.now.shuffler) wishes.now result }
-    {
-        self.wished_values(wishes, coefficients);
-        gather_inverses(&self.ring);
-        interpolate(&self.ring, wishes, coefficients);
-        let place = number(self.plan.levels, coefficients);
+        let mut coefficients = self.wished_values(wishes);
+        gather_inverses(self.ring);
+        interpolate(self.ring, wishes, coefficients.as_mut_slice());
+        let place = number(self.plan.levels, coefficients.as_slice());
         self.shuffler.back(self.plan.seed, self.plan.labels, place)
     }
 
     // The values at the points of the wished factors that give the wished levels.
-    fn wished_values(&self, wishes: &[Wish], values: &mut [u32])
-        requires sized { length wishes.now ≡ length values.old }
+    fn wished_values(&self, wishes: &[Wish]) -> ArrayVec<u32, 16>
+        requires few { length wishes.now ≤ 16 }
         requires named { (k : ℕ) → k < length wishes.now → factor_of wishes.now k < 16 }
-        ensures { values.new ≡ values_of self.now.plan (S.Shuffler.ways self.now.shuffler) wishes.now }
+        ensures { result.items ≡ values_of self.now.plan (S.Shuffler.ways self.now.shuffler.now) wishes.now }
     {
-        for k in 0..wishes.len() {
-            let wish = wishes[k];
-            values[k] = self.shuffler.back(
-                level_key(self.plan.seed, wish.factor),
-                self.plan.levels,
-                wish.level,
-            );
+        let Plan { levels, seed, .. } = self.plan;
+        let mut values = ArrayVec::new();
+        for wish in wishes {
+            let value = self
+                .shuffler
+                .back(key(LEVELS, seed, wish.factor), levels, wish.level);
+            values.push(value);
         }
+        values
     }
 }

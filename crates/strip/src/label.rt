@@ -1,10 +1,10 @@
 // One label's level and fine setting for one factor.
 ghost use Rattle.std.specs.Prelude.{◌≡◌, ℕ, ◌+◌, ◌*◌, ◌/◌, ◌^◌, ◌<◌, ◌≤◌};
-ghost use Rattle.strip.specs.Labels.{point, level_key, fine_key, value_at, level_at, sublevel_at, cell_at};
+ghost use Rattle.strip.specs.Labels.{point, key, value_at, level_at, sublevel_at, cell_at};
 
-use crate::cell::{Cell, Strip};
+use crate::cell::Cell;
+use crate::labels::Labels;
 use levels::arithmetic::Ring;
-use plan::shape::Plan;
 use shuffle::Shuffler;
 
 // The code at which a factor takes the value of a label's polynomial.
@@ -14,20 +14,17 @@ pub(crate) fn point(factor: u32) -> u32
     factor
 }
 
-// The key by which a factor's levels are shuffled.
-pub(crate) fn level_key(seed: u32, factor: u32) -> u32
-    requires { factor < 16 }
-    ensures { result ≡ level_key seed factor }
-{
-    seed.wrapping_mul(factor + 1).wrapping_mul(0x51633e2d)
-}
+// What the keys are multiplied by, by which a factor's levels and its sub-levels are shuffled.
+pub(crate) const LEVELS: u32 = 0x51633e2d;
 
-// The key by which a factor's sub-levels are shuffled.
-pub(crate) fn fine_key(seed: u32, factor: u32) -> u32
+pub(crate) const SUBLEVELS: u32 = 0x68bc21eb;
+
+// A key of a factor.
+pub(crate) fn key(constant: u32, seed: u32, factor: u32) -> u32
     requires { factor < 16 }
-    ensures { result ≡ fine_key seed factor }
+    ensures { result ≡ key constant seed factor }
 {
-    seed.wrapping_mul(factor + 1).wrapping_mul(0x68bc21eb)
+    seed.wrapping_mul(factor + 1).wrapping_mul(constant)
 }
 
 // The value at x of the polynomial whose `terms` coefficients are the lowest digits of n.
@@ -46,44 +43,30 @@ pub(crate) fn value<R: Ring>(ring: &R, terms: u32, n: u32, x: u32) -> u32
     total
 }
 
-// The level of what stands at n before shuffling, for a factor.
-pub(crate) fn level_at<R: Ring, S: Shuffler>(
-    plan: Plan,
-    ring: &R,
-    shuffler: &S,
-    n: u32,
-    factor: u32,
-) -> u32
-    requires counts { (R.Ring.ring ring.now).count ≡ plan.levels }
-    requires named { factor < plan.factors }
-    ensures value { result ≡ level_at plan (R.Ring.ring ring.now) (S.Shuffler.ways shuffler.now) n factor }
-    ensures below { result < plan.levels }
-{
-    let value = value(ring, plan.strength, n, point(factor));
-    shuffler.out(level_key(plan.seed, factor), plan.levels, value)
-}
-
-impl<R: Ring, S: Shuffler> Strip<R, S> {
+// Kept: that the place and the factor are there stands in each contract, as bounds of an index do; types for them would be made anew at every cell.
+impl<R: Ring, S: Shuffler> Labels<'_, R, S> {
     // The level of what stands at n before shuffling, for a factor.
     pub(crate) fn level_at(&self, n: u32, factor: u32) -> u32
-        requires counts { (R.Ring.ring self.now.ring).count ≡ self.now.plan.levels }
         requires named { factor < self.now.plan.factors }
-        ensures value { result ≡ level_at self.now.plan (R.Ring.ring self.now.ring) (S.Shuffler.ways self.now.shuffler) n factor }
+        ensures value { result ≡ level_at self.now.plan (R.Ring.ring self.now.ring.now) (S.Shuffler.ways self.now.shuffler.now) n factor }
         ensures below { result < self.now.plan.levels }
     {
-        level_at(self.plan, &self.ring, &self.shuffler, n, factor)
+        let plan = self.plan;
+        let value = value(self.ring, plan.strength, n, point(factor));
+        self.shuffler
+            .out(key(LEVELS, plan.seed, factor), plan.levels, value)
     }
 
     // The sub-level of what stands at n before shuffling, for a factor.
     pub(crate) fn sublevel_at(&self, n: u32, factor: u32) -> u32
         requires placed { n < self.now.plan.labels }
         requires named { factor < self.now.plan.factors }
-        ensures value { result ≡ sublevel_at self.now.plan (S.Shuffler.ways self.now.shuffler) n factor }
+        ensures value { result ≡ sublevel_at self.now.plan (S.Shuffler.ways self.now.shuffler.now) n factor }
         ensures below { result < self.now.plan.labels / self.now.plan.levels }
     {
         let plan = self.plan;
         self.shuffler.out(
-            fine_key(plan.seed, factor),
+            key(SUBLEVELS, plan.seed, factor),
             plan.labels / plan.levels,
             n / plan.levels,
         )
@@ -91,10 +74,9 @@ impl<R: Ring, S: Shuffler> Strip<R, S> {
 
     // The cell of what stands at n before shuffling, for a factor.
     pub(crate) fn cell_at(&self, n: u32, factor: u32) -> Cell
-        requires counts { (R.Ring.ring self.now.ring).count ≡ self.now.plan.levels }
         requires placed { n < self.now.plan.labels }
         requires named { factor < self.now.plan.factors }
-        ensures { result ≡ cell_at self.now.plan (R.Ring.ring self.now.ring) (S.Shuffler.ways self.now.shuffler) n factor }
+        ensures { result ≡ cell_at self.now.plan (R.Ring.ring self.now.ring.now) (S.Shuffler.ways self.now.shuffler.now) n factor }
     {
         let level = self.level_at(n, factor);
         let sublevel = self.sublevel_at(n, factor);

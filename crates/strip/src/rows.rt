@@ -6,6 +6,7 @@ ghost use Rattle.strip.specs.Rows.{Written, rows_rows};
 
 use crate::cell::{Cell, Strip};
 use crate::fault::StripFault;
+use crate::labels::Labels;
 use levels::arithmetic::Ring;
 use shuffle::Shuffler;
 
@@ -21,45 +22,43 @@ impl<R: Ring, S: Shuffler> Strip<R, S> {
         ensures answer { Answers strip_slip (rows_rows self.now.plan (R.Ring.ring self.now.ring) first count start (length table.old)) (λ _. Written self.now.plan (R.Ring.ring self.now.ring) (S.Shuffler.ways self.now.shuffler) first count start table.old table.new) result }
         ensures same { OnErr result (table.new ≡ table.old) }
     {
-        let plan = self.plan;
-        if self.ring.count() != plan.levels {
-            return Err(StripFault::Count);
-        }
-        let cells = count as usize * plan.factors as usize;
+        let labels = self.labels()?;
+        let cells = count as usize * self.plan.factors as usize;
         if table.len() < start || table.len() - start < cells {
             return Err(StripFault::Room);
         }
-        if plan.labels < first || plan.labels - first < count {
+        if self.plan.labels < first || self.plan.labels - first < count {
             return Err(StripFault::Labels);
         }
-        self.write_rows(first, count, &mut table[start..start + cells]);
+        labels.write_rows(first, count, &mut table[start..start + cells]);
         Ok(())
     }
+}
 
+impl<R: Ring, S: Shuffler> Labels<'_, R, S> {
     // Writes rows into memory that is as long as they are.
     fn write_rows(&self, first: u32, count: u32, part: &mut [Cell])
-        requires counts { (R.Ring.ring self.now.ring).count ≡ self.now.plan.levels }
         requires placed { first + count ≤ self.now.plan.labels }
         requires sized { length part.old ≡ count * self.now.plan.factors }
-        ensures { Written self.now.plan (R.Ring.ring self.now.ring) (S.Shuffler.ways self.now.shuffler) first count 0 part.old part.new }
+        ensures { Written self.now.plan (R.Ring.ring self.now.ring.now) (S.Shuffler.ways self.now.shuffler.now) first count 0 part.old part.new }
     {
-        let mut at = 0;
+        let factors = self.plan.factors as usize;
         for k in 0..count {
-            self.write_row(first + k, part, at);
-            at += self.plan.factors as usize;
+            // Kept: a part named by its place, since of the items that chunks_exact_mut lends nothing is known once they are written.
+            let at = k as usize * factors;
+            self.write_row(first + k, &mut part[at..at + factors]);
         }
     }
 
-    // Writes one label's row from the cell `at` on.
-    fn write_row(&self, label: u32, part: &mut [Cell], at: usize)
-        requires counts { (R.Ring.ring self.now.ring).count ≡ self.now.plan.levels }
+    // Writes one label's row.
+    fn write_row(&self, label: u32, row: &mut [Cell])
         requires placed { label < self.now.plan.labels }
-        requires sized { at + self.now.plan.factors ≤ length part.old }
-        ensures { Written self.now.plan (R.Ring.ring self.now.ring) (S.Shuffler.ways self.now.shuffler) label 1 at part.old part.new }
+        requires sized { length row.old ≡ self.now.plan.factors }
+        ensures { Written self.now.plan (R.Ring.ring self.now.ring.now) (S.Shuffler.ways self.now.shuffler.now) label 1 0 row.old row.new }
     {
         let n = self.shuffler.out(self.plan.seed, self.plan.labels, label);
-        for j in 0..self.plan.factors {
-            part[at + j as usize] = self.cell_at(n, j);
+        for (factor, cell) in row.iter_mut().enumerate() {
+            *cell = self.cell_at(n, factor as u32);
         }
     }
 }

@@ -1,5 +1,6 @@
 -- Strip done, and the combinations that are on graded labels. Assumes nothing.
-use Rattle.std.proofs.Common.{◌≡◌, ℕ, ◌<◌, Bool, true, false, T, ◌↔◌, List, length, get_or, take, sym, refl, subst}
+use Rattle.std.proofs.Common.{◌≡◌, ℕ, ◌<◌, Bool, true, false, T, ◌↔◌, List, length, get_or, take, Result, sym, refl, subst}
+use Rattle.refusal.specs.declared.Slip.{Slip}
 use Rattle.levels.specs.Rings.{Arithmetic}
 use Rattle.shuffle.specs.Ways.{Ways}
 use Rattle.plan.specs.declared.shape.Plan.{Plan}
@@ -42,8 +43,8 @@ module _ (P : Plan) (R : Arithmetic) (W : Ways) (D : StripDesign P R W) (F : Lis
         λ all w ok. let r = both.1 (λ i h. tested (get_or p.labels i waiting) (all i h)) w ok in (r.0, r.1, grade_of_lem (get_or p.labels r.0 waiting) r.2, r.3),
       )
 
-  pub done_at : (calls : List Call) (told : List Answer) (q : Plain) → Row P.labels (opened P.labels) calls told q
-      → (k : ℕ) (x : Call) (y : Answer) → k < length told → get_or calls k x ≡ Take P.labels → DoneAt P R W calls told k F y
+  pub done_at : (calls : List Call) (told : List (Result Answer Slip)) (q : Plain) → Row P.labels (opened P.labels) calls told q
+      → (k : ℕ) (x : Call) (y : Result Answer Slip) → k < length told → get_or calls k x ≡ Take P.labels → DoneAt P R W calls told k F y
   done_at calls told q row k x y h is =
       let n = P.labels in
       let t = turn_at n (opened n) q calls told row k h x y in

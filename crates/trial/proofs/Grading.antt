@@ -15,7 +15,7 @@ use Rattle.book.proofs.Steps.{stands_label}
 use Rattle.design.specs.Sums.{only}
 use Rattle.design.specs.Designs.{sum_at}
 use Rattle.design.proofs.Sums.{sum_same}
-use Rattle.trial.specs.Effects.{grade_of}
+use Rattle.trial.specs.Finished.{grade_of}
 use Rattle.trial.specs.Finished.{EffectOver}
 use Rattle.trial.specs.Replies.{grade_as, grade_in}
 

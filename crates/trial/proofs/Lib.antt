@@ -1,5 +1,4 @@
 pub mod Shares
-pub mod SharesOver
 pub mod Grading
 pub mod Replying
 pub mod Covering

@@ -27,7 +27,7 @@ use Rattle.trial.specs.Faults.{effect_slip}
 use Rattle.trial.specs.Finished.{AdditiveOver, finished_rows, EffectOver}
 use Rattle.trial.specs.Replies.{grade_in, Replied}
 use Rattle.trial.specs.Trials.{Finds, Trial}
-use Rattle.trial.proofs.SharesOver.{clear_over}
+use Rattle.trial.proofs.Shares.{clear_over}
 use Rattle.trial.proofs.Covering.{done_at}
 
 -- where no row holds, an answer is a value, and the right one
@@ -61,7 +61,7 @@ module _ (P : Plan) (R : Arithmetic) (W : Ways) (counts : R.count ≡ P.levels) 
       ap told.Effect (v.1 ∙ ap Ok (v.2.shares two base share add))
   effect_told f a b told.Unfinished h done clear two base share add = absurd (both_ways finished h done)
 
-module _ (P : Plan) (R : Arithmetic) (W : Ways) (L : RingLaws R) (M : ShuffleLaws W) (calls : List Call) (answers : List Answer) (after : Plain) (questions : List Question) (replies : List Reply) where
+module _ (P : Plan) (R : Arithmetic) (W : Ways) (L : RingLaws R) (M : ShuffleLaws W) (calls : List Call) (answers : List (Result Answer Slip)) (after : Plain) (questions : List Question) (replies : List Reply) where
   pub promised : refusal (count_row P R ∷ []) ≡ None → Exact P R W → Row P.labels (opened P.labels) calls answers after
       → ((k : ℕ) (x : Question) (y : Reply) → k < length questions → Replied P R W (finishes answers) after (get_or questions k x) (get_or replies k y))
       → length replies ≡ length questions → Trial P R W calls answers after questions replies

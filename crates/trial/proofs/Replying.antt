@@ -21,7 +21,7 @@ use Rattle.book.proofs.Simulation.{shows_length}
 use Rattle.book.proofs.Handing.{whole, other}
 use Rattle.trial.specs.declared.fault.EffectFault.{EffectFault}
 use Rattle.trial.specs.Faults.{effect_slip}
-use Rattle.trial.specs.Effects.{grade_of}
+use Rattle.trial.specs.Finished.{grade_of}
 use Rattle.trial.specs.Finished.{finished_rows, EffectOver}
 use Rattle.trial.specs.Replies.{grade_in}
 use Rattle.trial.proofs.Grading.{same_grade, same_effect}

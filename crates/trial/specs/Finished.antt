@@ -1,11 +1,12 @@
 -- The effect of a factor, read off the grades of a finished book, which are given as a function.
+--   grade_of       the grade that a label's word holds
 --   finished_rows  the refusal table's rows when an effect is asked for
 --   grades_over    the sum of the grades of the labels that have a level
 --   effect_over    the sum of the grades of the labels with level a, less that of those with level b
 --   AdditiveOver   each label's grade is a base plus one share per factor's level
 --   EffectOver     what an effect answers: its value, and what that is where the grades are additive
 -- Assumes nothing.
-use Rattle.std.specs.Prelude.{◌≡◌, ℕ, ◌/◌, ◌<◌, ◌≤◌, cond, ◌||◌, List, ◌∷◌, ℤ, pos, ◌+ℤ◌, ◌-ℤ◌, ◌*ℤ◌, nat_le}
+use Rattle.std.specs.Prelude.{◌≡◌, ℕ, ◌-◌, ◌/◌, ◌<◌, ◌≤◌, cond, ◌||◌, List, ◌∷◌, ℤ, pos, ◌+ℤ◌, ◌-ℤ◌, ◌*ℤ◌, nat_le, slice_index}
 use Rattle.refusal.specs.declared.Layer.TheVariants as layer
 use Rattle.refusal.specs.Table.{Row, row}
 use Rattle.levels.specs.Rings.{Arithmetic}
@@ -17,6 +18,9 @@ use Rattle.book.specs.declared.standing.Standing.{Standing}
 use Rattle.book.specs.Conditions.{unfit, ungraded}
 use Rattle.design.specs.Sums.{sum_to}
 use Rattle.design.specs.Designs.{sum_at}
+
+abbrev pub grade_of : List ℕ → ℕ → ℤ
+grade_of ws i = pos (slice_index ws i - 2)
 
 -- len is the length of the memory handed in, and ss is how the labels stand
 abbrev pub finished_rows : Plan → Arithmetic → (len : ℕ) → List Standing → (f a b : ℕ) → List Row

@@ -1,5 +1,4 @@
 pub mod Faults
-pub mod Effects
 pub mod Finished
 pub mod Replies
 pub mod Trials

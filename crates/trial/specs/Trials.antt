@@ -9,6 +9,7 @@
 --   TrialEnds   how the call ends: conducted, or refused with the words as they were
 -- Assumes nothing.
 use Rattle.std.specs.Prelude.{◌≡◌, ℕ, ◌/◌, ◌<◌, ◌≤◌, true, ◌↔◌, List, ◌∷◌, length, take, ℤ, pos, ◌-ℤ◌, ◌*ℤ◌, Some, None, Ok, Err, vec_items, Result, slice_index_or}
+use Rattle.refusal.specs.declared.Slip.{Slip}
 use Rattle.refusal.specs.Table.{Row as TableRow, refusal}
 use Rattle.levels.specs.Rings.{Arithmetic}
 use Rattle.shuffle.specs.Ways.{Ways}
@@ -21,7 +22,6 @@ use Rattle.strip.specs.Rows.{count_row}
 use Rattle.book.specs.declared.calls.Call.{Call}
 use Rattle.book.specs.declared.calls.Call.TheVariants.{Take}
 use Rattle.book.specs.declared.calls.Answer.{Answer}
-use Rattle.book.specs.declared.calls.Answer.TheVariants.{Refused}
 use Rattle.book.specs.Faults.{slip_of, book_slip}
 use Rattle.book.specs.Conditions.{opening}
 use Rattle.book.specs.Plain.{Plain, waiting, graded, opened}
@@ -53,13 +53,13 @@ Covered P R W F p =
     (w : ℕ → ℕ) → ((j : ℕ) → In j F → w j < P.levels) → (i : ℕ) × (i < P.labels) × Graded p i × Meets (level P R W) w F i
 
 -- before is the plain book that the first k calls left
-pub record DoneAt (P : Plan) (R : Arithmetic) (W : Ways) (calls : List Call) (answers : List Answer) (k : ℕ) (F : List ℕ) (answer : Answer) : Type 0 where
+pub record DoneAt (P : Plan) (R : Arithmetic) (W : Ways) (calls : List Call) (answers : List (Result Answer Slip)) (k : ℕ) (F : List ℕ) (answer : Result Answer Slip) : Type 0 where
   pub before : Plain
   pub row : Row P.labels (opened P.labels) (take k calls) (take k answers) before
-  pub exactly : (slice_index_or answers k answer ≡ Refused (slip_of 15 0)) ↔ Covered P R W F before
+  pub exactly : (slice_index_or answers k answer ≡ Err (slip_of 15 0)) ↔ Covered P R W F before
 
 -- calls and answers, questions and replies go in pairs, by their places; x and y name what stands past the end of a list
-pub record Trial (P : Plan) (R : Arithmetic) (W : Ways) (calls : List Call) (answers : List Answer) (after : Plain) (questions : List Question) (replies : List Reply) : Type 0 where
+pub record Trial (P : Plan) (R : Arithmetic) (W : Ways) (calls : List Call) (answers : List (Result Answer Slip)) (after : Plain) (questions : List Question) (replies : List Reply) : Type 0 where
   -- each call answers as the plain book does, from its opening on, and the row leaves the plain book after
   pub plain : Row P.labels (opened P.labels) calls answers after
   -- any t different factors with a level each name exactly one label, and so does a factor with a fine setting
@@ -71,7 +71,7 @@ pub record Trial (P : Plan) (R : Arithmetic) (W : Ways) (calls : List Call) (ans
   pub locate : (k j f : ℕ) (x : Question) (y : Reply) → k < length questions → slice_index_or questions k x ≡ ask.Locate j f → j < P.factors → f < P.labels
       → (i : ℕ) × (slice_index_or replies k y ≡ told.Label (Ok i)) × Located P R W j f i
   -- for any t different factors, a take that is handed all N words says strip done exactly where they are covered
-  pub done : (F : List ℕ) → Factors P.factors F → length F ≡ P.strength → (k : ℕ) (x : Call) (y : Answer) → k < length answers → slice_index_or calls k x ≡ Take P.labels
+  pub done : (F : List ℕ) → Factors P.factors F → length F ≡ P.strength → (k : ℕ) (x : Call) (y : Result Answer Slip) → k < length answers → slice_index_or calls k x ≡ Take P.labels
       → DoneAt P R W calls answers k F y
   -- at strength 2 or more and after an accepted finish, where the grades are a base plus a share per factor's level,
   -- an effect that is handed all N words is exactly N/s times a's share less b's

@@ -28,7 +28,7 @@ pub struct Outcome {
 }
 
 // Why a trial was not begun.
-#[derive(Drop)]
+#[derive(Clone, Copy, Debug, PartialEq, Eq)]
 pub enum TrialFault {
     // no memory for the answers or the replies
     Memory,
@@ -38,6 +38,7 @@ pub enum TrialFault {
     Book(BookFault),
 }
 
+// Kept: written by hand, as clauses read `from_gives`, which the derive of the crate thiserror does not give.
 impl From<StripFault> for TrialFault {
     ghost from_gives = { λ f r. r ≡ Strip f };
 

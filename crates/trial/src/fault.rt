@@ -40,6 +40,7 @@ impl Fault for EffectFault {
     }
 }
 
+// Kept: written by hand, as clauses read `from_gives`, which the derive of the crate thiserror does not give.
 impl From<StripFault> for EffectFault {
     ghost from_gives = { λ f r. r ≡ Strip f };
 

@@ -3,7 +3,6 @@
 #![tactic(auto)]
 
 pub mod conduct;
-mod effect;
 pub mod fault;
 pub mod finished;
 pub mod question;

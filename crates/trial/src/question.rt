@@ -21,6 +21,7 @@ pub enum Question {
     },
 }
 
+// Kept: Unfinished stands beside Effect, as an Option about its Result would not say what is wanting.
 #[derive(Clone, Copy, Debug, PartialEq, Eq)]
 pub enum Reply {
     // to find and locate

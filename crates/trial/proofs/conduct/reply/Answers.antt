@@ -2,7 +2,7 @@ use Rattle.std.proofs.Common.{◌-◌, length, take, sym, ◌∙◌, subst}
 use native.Mathlib.Nat.{sub-zero}
 use Rattle.book.specs.Standings.{standings}
 use Rattle.book.specs.Shown.{Leaves}
-use Rattle.trial.specs.Effects.{grade_of}
+use Rattle.trial.specs.Finished.{grade_of}
 use Rattle.trial.specs.Replies.{Replied}
 use Rattle.trial.specs.declared.question.Reply.TheVariants as told
 use Rattle.trial.proofs.Replying.{Owed, effect_replied}

@@ -4,7 +4,7 @@ use Rattle.design.specs.Sums.{only}
 use Rattle.design.specs.Designs.{sum_at}
 use Rattle.design.proofs.Sums.{only_same, only_other}
 use Rattle.strip.specs.Labels.{level}
-use Rattle.trial.specs.Effects.{grade_of}
+use Rattle.trial.specs.Finished.{grade_of}
 use Rattle.trial.proofs.finished.grades_over.Goals as goal
 use Rattle.trial.proofs.finished.grades_over.Goals.{then-known_level-wanted, else-known_level-wanted}
 
@@ -23,17 +23,18 @@ none level f a n sum h e l =
 
 pub loop-label-preserved : goal.loop-label-preserved
 loop-label-preserved g c =
-    let levels = level c.args.plan (g.R.Ring.ring c.args.ring.now) (g.S.Shuffler.ways c.args.shuffler.now) in
+    let L = c.args.labels.now in
+    let levels = level L.plan (g.R.Ring.ring L.ring.now) (g.S.Shuffler.ways L.shuffler.now) in
     let n : ℕ = c.loop-label.label in
     let h = grade_of c.args.words.now in
     let wide : (n + 1) * 65536 ≡ n * 65536 + 65536 = add-mul n 1 65536 in
     elim c.if-known_level-wanted.branch [
       | then-known_level-wanted w ↦
-          let x : ℕ = w.saturating_sub.result in
+          let x : ℕ = w.from-sum.result in
           let fits = (c.type_inv.words n).fits in (
             subst (λ z. pos z ≡ sum_at (n + 1) levels c.args.factor c.args.wanted h) (sym w.sum-is)
-                (more levels c.args.factor c.args.wanted n c.loop-label.sum x h c.loop-label.invariant.0 (ap pos (sym w.saturating_sub.ensures)) (sym c.known_level.ensures ∙ w.if-known_level-wanted.true)),
-            omega (arith, w.sum-is, w.saturating_sub.ensures, c.loop-label.invariant.1),
+                (more levels c.args.factor c.args.wanted n c.loop-label.sum x h c.loop-label.invariant.0 (ap pos (sym (w.from-sum.ensures ∙ w.saturating_sub.ensures))) (sym c.known_level.ensures ∙ w.if-known_level-wanted.true)),
+            omega (arith, w.sum-is, w.from-sum.ensures, w.saturating_sub.ensures, c.loop-label.invariant.1),
           )
       | else-known_level-wanted w ↦ (
         subst (λ z. pos z ≡ sum_at (n + 1) levels c.args.factor c.args.wanted h) (sym w.sum-is)

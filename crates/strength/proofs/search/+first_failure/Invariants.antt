@@ -1,5 +1,0 @@
-use Rattle.std.proofs.Common.{◌-◌}
-use Rattle.strength.proofs.search.+first_failure.Given as goal
-
-abbrev pub decreases-first_failure : goal.decreases-first_failure
-decreases-first_failure g l = l.claim.factors - l.low
