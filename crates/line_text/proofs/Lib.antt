@@ -1,3 +1,1 @@
-mod Numerals
-mod Ends
 mod Cuts

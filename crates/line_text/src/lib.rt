@@ -1,5 +1,6 @@
 // The words of a line, and the numbers that they write. Rests on the listing's text for what a numeral is.
 #![tactic(auto)]
 
-pub mod number;
+pub use listing_text::number;
+
 pub mod words;

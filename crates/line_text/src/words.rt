@@ -3,7 +3,7 @@ ghost use Rattle.std.specs.Prelude.{◌≡◌, ℕ, ◌<◌, ◌≤◌, List, le
 ghost use Rattle.line_text.specs.Words.{is_blank, Trimmed, Only, Next, Over, NextNumber, NoNumber};
 ghost use Rattle.std.specs.Iterator.{at_most};
 
-use crate::number::numeral;
+use listing_text::number::numeral;
 
 // The words of a line, between spaces and tabs, that are still to come.
 #[derive(Drop)]
@@ -27,8 +27,11 @@ impl<'a> Words<'a> {
     pub fn next_word(&mut self) -> Option<&'a [u8]>
         ensures { MatchOption result (Over self.old.rest.now self.new.rest.now) (λ w. Next self.old.rest.now w.now self.new.rest.now) }
     {
-        let (_, text) = self.rest.split_at(leading(self.rest, true));
-        let (word, rest) = text.split_at(leading(text, false));
+        let line = self.rest;
+        let start = line.iter().position(|byte| !is_blank(*byte));
+        let text = &line[start.unwrap_or(line.len())..];
+        let end = text.iter().position(|byte| is_blank(*byte));
+        let (word, rest) = text.split_at(end.unwrap_or(text.len()));
         self.rest = rest;
         if word.is_empty() { None } else { Some(word) }
     }
@@ -44,10 +47,7 @@ impl<'a> Words<'a> {
     pub fn end(&mut self) -> Option<()>
         ensures { MatchOption result ((word : List ℕ) × Next self.old.rest.now word self.new.rest.now) (λ _. Over self.old.rest.now self.new.rest.now) }
     {
-        match self.next_word() {
-            Some(_) => None,
-            None => Some(()),
-        }
+        self.next_word().is_none().then_some(())
     }
 }
 
@@ -67,18 +67,4 @@ fn is_blank(byte: u8) -> bool
     ensures { result ≡ is_blank byte }
 {
     byte == b' ' || byte == b'\t'
-}
-
-// How many bytes in a row, at the front of a text, are blanks, or are not.
-fn leading(text: &[u8], blank: bool) -> usize
-    ensures within { result ≤ length text.now }
-    ensures front { Only blank (take result text.now) }
-    ensures stop { result < length text.now → is_blank (slice_index text.now result) ≢ blank }
-{
-    for (i, byte) in text.iter().enumerate() {
-        if is_blank(*byte) != blank {
-            return i;
-        }
-    }
-    text.len()
 }

@@ -8,6 +8,8 @@ use levels::fault::ArithmeticFault;
 use plan::fault::PlanFault;
 use refusal::{Fault, Layer, Slip};
 use std::alloc::AllocError;
+use std::error::Error;
+use std::fmt;
 use strip::fault::StripFault;
 
 #[derive(Clone, Copy, Debug, PartialEq, Eq)]
@@ -36,6 +38,7 @@ impl Fault for ListingFault {
     }
 }
 
+// Kept: written by hand, as clauses read `from_gives`, which the derive of the crate thiserror does not give.
 impl From<ArithmeticFault> for ListingFault {
     ghost from_gives = { λ f r. r ≡ Arithmetic f };
 
@@ -67,10 +70,21 @@ pub enum LineFault {
     Refused(ListingFault),
 }
 
+impl fmt::Display for LineFault {
+    fn fmt<W: fmt::Write>(&self, f: &mut fmt::Formatter<W>) -> fmt::Result {
+        match self {
+            LineFault::Memory => f.write_str("no memory"),
+            LineFault::Refused(_) => f.write_str("a row was refused"),
+        }
+    }
+}
+
+impl Error for LineFault {}
+
 impl From<AllocError> for LineFault {
     ghost from_gives = { λ _ r. r ≡ Memory };
 
-    fn from(_e: AllocError) -> LineFault {
+    fn from(_: AllocError) -> LineFault {
         LineFault::Memory
     }
 }

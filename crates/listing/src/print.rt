@@ -37,9 +37,7 @@ impl Listing {
     pub fn open(input: &[u8]) -> Result<Listing, ListingFault>
         ensures { (q : Option Request) × Parsed input.now q × Answers listing_slip (listing_rows q) (Listed q) result }
     {
-        let Some(request) = Request::read(input) else {
-            return Err(ListingFault::Malformed);
-        };
+        let request = Request::read(input).ok_or(ListingFault::Malformed)?;
         let ring = AnyRing::of(request.levels)?;
         let plan = Plan::new(
             request.levels,
@@ -48,12 +46,14 @@ impl Listing {
             request.seed,
         )?;
         let shuffler = shuffler_named(request.shuffler);
-        let strip = Strip {
-            plan,
-            ring,
-            shuffler,
-        };
-        Ok(Listing { request, strip })
+        Ok(Listing {
+            request,
+            strip: Strip {
+                plan,
+                ring,
+                shuffler,
+            },
+        })
     }
 
     // Appends the line of a label.
@@ -61,6 +61,7 @@ impl Listing {
         ensures text { RowPushed self.now label (string_bytes out.old) (string_bytes out.new) result }
         ensures room { string_len out.old + length (line_of self.now label) ≤ string_capacity out.old → result ≢ Err Memory }
     {
+        // Kept: an array of the most cells, since a Vec could want memory where the string has room.
         let mut cells = [Cell { level: 0, fine: 0 }; 16];
         self.write_cells(label, &mut cells)?;
         push_line(out, label, &cells[0..self.strip.plan.factors as usize])?;

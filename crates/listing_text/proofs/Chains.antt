@@ -1,28 +1,26 @@
 -- One text appended after another. Assumes nothing.
-use Rattle.std.proofs.Common.{◌≡◌, ℕ, ◌+◌, ◌<◌, ◌≤◌, true, cond, List, [], ◌∷◌, ◌++◌, length, get_or, take, is_ok, is_err, Ok, Err, string_bytes, string_len, string_capacity, Result, String, sym, refl, ap, ◌∙◌, subst, ⊎_elim, append_assoc, append-nil, arith, length-append, take-append-drop, take_all}
-use lib.Seq.{take-append-add, take-append-le, take-length}
-use Rattle.std.proofs.lemmas.List.{flat_map_more, take_more, drop_more}
-use Rattle.std.proofs.str.Laws.{order}
+use Rattle.std.proofs.Common.{◌≡◌, ℕ, ◌+◌, ◌<◌, ◌≤◌, true, cond, List, [], ◌++◌, length, get_or, take, min, is_ok, is_err, Ok, Err, string_bytes, string_len, string_capacity, Result, String, sym, refl, ap, ◌∙◌, subst, append_assoc, append-nil, arith, length-append, take-append-drop, take_all}
+use lib.Seq.{take-append-add, take-length}
+use Rattle.std.proofs.lemmas.List.{flat_map_more, take_more, drop_more, take_min, take-append-le}
+use Rattle.std.proofs.lemmas.Grind.{flat_map-append}
+use Rattle.std.specs.declared.alloc.AllocError.{AllocError}
 use Rattle.std.specs.List.{flat_map}
 use Rattle.listing_text.specs.Appends.{Appends}
 
 -- a front of a text is a front of a longer one
-longer : (a b : List ℕ) (k : ℕ) → (j : ℕ) × (take k a ≡ take j (a ++ b))
+longer : (a b : List ℕ) (k : ℕ) → take k a ≡ take (min k (length a)) (a ++ b)
 longer a b k =
-    ⊎_elim
-    (λ h. (k, let le : k ≤ length a = omega arith in sym (take-append-le k a b le)))
-    (λ h. (length a, take_all k a h ∙ sym (take_all (length a) a (omega arith)) ∙ sym (take-append-le (length a) a b (omega arith))))
-    (order k (length a))
+    sym (take_min k a) ∙ sym (take-append-le (min k (length a)) a b (omega arith))
 
 fails : {X Y : Type 0} (r : Result X Y) → is_err r ≡ true → is_ok r ≡ true → ⊥
 fails r e ok = grind arith
 
--- what the string's own methods say of one text
-pub from_push : {X Y Z : Type 0} {old new : String Z} (r : Result X Y) (text : List ℕ) → string_bytes new ≡ cond (is_ok r) (string_bytes old ++ text) (string_bytes old) → string_capacity old ≤ string_capacity new → (string_len old + length text ≤ string_capacity old → is_ok r ≡ true) → Appends r old text new
-from_push {old = old} (Ok x) text bytes grows room =
+-- what `push_str` says of one text
+pub pushed : {Z : Type 0} (old new : String Z) (r : Result (Unit {0}) AllocError) (text : List ℕ) → string_bytes new ≡ cond (is_ok r) (string_bytes old ++ text) (string_bytes old) → string_capacity old ≤ string_capacity new → (string_len old + length text ≤ string_capacity old → is_ok r ≡ true) → Appends r old text new
+pushed old new (Ok x) text bytes grows room =
     record { whole = λ _. bytes; front = (length text, bytes ∙ ap (λ l. string_bytes old ++ l) (sym (take-length text))); room = room; capacity = grows }
-from_push {X = X} {old = old} (Err y) text bytes grows room =
-    record { whole = λ ok. absurd (fails {X = X} (Err y) refl ok); front = (0, bytes ∙ sym (append-nil (string_bytes old))); room = room; capacity = grows }
+pushed old new (Err y) text bytes grows room =
+    record { whole = λ ok. absurd (fails {X = Unit {0}} (Err y) refl ok); front = (0, bytes ∙ sym (append-nil (string_bytes old))); room = room; capacity = grows }
 
 -- before a loop that appends
 pub starts : {X Y Z : Type 0} {x : X} {s : String Z} → Appends {Y = Y} (Ok x) s [] s
@@ -48,17 +46,12 @@ module _ {X Y Z : Type 0} {old new : String Z} {a : List ℕ} where
   -- memory ran out in the first text
   pub stops : {P Q : Type 0} {y : Q} (rest : List ℕ) (r : Result X Y) → is_err r ≡ true → Appends {X = P} (Err y) old a new → Appends r old (a ++ rest) new
   stops {P = P} {y = y} rest r e p =
-      let j = longer a rest p.front.0 in
       record {
         whole = λ ok. absurd (fails r e ok);
-        front = (j.0, p.front.1 ∙ ap (λ l. string_bytes old ++ l) j.1);
+        front = (min p.front.0 (length a), p.front.1 ∙ ap (λ l. string_bytes old ++ l) (longer a rest p.front.0));
         room = λ h. absurd (fails {X = P} (Err y) refl (p.room (omega (arith, length-append a rest))));
         capacity = p.capacity;
       }
-
-joined_append : {A : Type 0} (f : A → List ℕ) (xs ys : List A) → flat_map f (xs ++ ys) ≡ flat_map f xs ++ flat_map f ys
-joined_append f [] ys = refl
-joined_append f (x ∷ xs) ys = ap (λ l. f x ++ l) (joined_append f xs ys) ∙ sym (append_assoc (f x) (flat_map f xs) (flat_map f ys))
 
 -- a loop that appends a text for each element of xs
 module _ {A X Y Z : Type 0} (f : A → List ℕ) (xs : List A) {i : ℕ} {old mid : String Z} {x : X} (so_far : Appends {Y = Y} (Ok x) old (flat_map f (take i xs)) mid) where
@@ -68,7 +61,7 @@ module _ {A X Y Z : Type 0} (f : A → List ℕ) (xs : List A) {i : ℕ} {old mi
   pub loop_stops : {P Q V W : Type 0} {new : String Z} {y : W} (rest : List ℕ) (d : A) → i < length xs → (r : Result P Q) → is_err r ≡ true → Appends {X = V} (Err y) mid (f (get_or xs i d)) new → Appends r old (flat_map f xs ++ rest) new
   loop_stops {new = new} rest d h r e p =
       let whole = sym (take-append-drop i xs) ∙ ap (λ l. take i xs ++ l) (drop_more xs i d h) in
-      let text = ap (λ l. flat_map f l ++ rest) whole ∙ ap (λ l. l ++ rest) (joined_append f (take i xs) _) ∙ append_assoc (flat_map f (take i xs)) _ rest ∙ ap (λ l. flat_map f (take i xs) ++ l) (append_assoc (f (get_or xs i d)) _ rest) in
+      let text = ap (λ l. flat_map f l ++ rest) whole ∙ ap (λ l. l ++ rest) (flat_map-append f (take i xs) _) ∙ append_assoc (flat_map f (take i xs)) _ rest ∙ ap (λ l. flat_map f (take i xs) ++ l) (append_assoc (f (get_or xs i d)) _ rest) in
       subst (λ l. Appends r old l new) (sym text) (along so_far (stops _ r e p))
 
   pub loop_ends : length xs ≤ i → Appends {Y = Y} (Ok x) old (flat_map f xs) mid

@@ -1,3 +1,4 @@
 pub mod Chains
+pub mod Numerals
 pub mod Splits
 pub mod Reading

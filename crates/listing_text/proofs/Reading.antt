@@ -2,7 +2,8 @@
 use Rattle.std.proofs.Common.{◌≡◌, ℕ, ◌+◌, ◌-◌, ◌≤◌, List, [], ◌∷◌, ◌++◌, length, take, drop, sym, refl, ap, ◌∙◌, subst, append_assoc, append-nil, arith, length-append, take-append-drop}
 use lib.Seq.{take-append-add}
 use Rattle.std.proofs.lemmas.Fmt.{decimal_nonempty, length-decimal-le, digits_decimal, digits_value-decimal}
-use Rattle.listing_text.proofs.Splits.{own, same_field}
+use Rattle.listing_text.proofs.Numerals.{own}
+use Rattle.listing_text.proofs.Splits.{same_field}
 use Rattle.listing_text.specs.declared.request.Request.{Request}
 use Rattle.listing_text.specs.Grammar.{Numeral, Field, Reads}
 use Rattle.listing_text.specs.Texts.{decimal, header_text}

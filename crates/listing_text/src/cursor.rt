@@ -2,8 +2,7 @@
 ghost use Rattle.std.specs.Prelude.{ℕ, ◌<◌, List, MatchOption};
 ghost use Rattle.listing_text.specs.Grammar.{Field};
 
-// A numeral has no more digits than these.
-const DIGITS: usize = 10;
+use crate::number::numeral;
 
 // What is left to read.
 #[derive(Drop)]
@@ -18,21 +17,8 @@ impl Cursor<'_> {
         ensures value { MatchOption result ((n : ℕ) (after : List ℕ) → Field end self.old.rest.now n after → ⊥) (λ n. Field end self.old.rest.now n self.new.rest.now) }
     {
         let bytes = self.rest;
-        let mut value: u64 = 0;
-        for (i, byte) in bytes.iter().enumerate() {
-            if *byte == end {
-                self.rest = &bytes[i + 1..];
-                return if i == 0 {
-                    None
-                } else {
-                    u32::try_from(value).ok()
-                };
-            }
-            if i == DIGITS || !byte.is_ascii_digit() {
-                return None;
-            }
-            value = value * 10 + u64::from(*byte - b'0');
-        }
-        None
+        let at = bytes.iter().position(|byte| *byte == end)?;
+        self.rest = &bytes[at + 1..];
+        numeral(&bytes[..at])
     }
 }

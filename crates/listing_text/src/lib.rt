@@ -3,6 +3,7 @@
 
 mod cursor;
 pub mod lines;
+pub mod number;
 pub mod request;
 #[cfg(test)]
 mod tests;

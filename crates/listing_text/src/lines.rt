@@ -1,41 +1,24 @@
 // The printed lines of a listing, appended to a string. An error is want of memory.
-ghost use Rattle.std.specs.Prelude.{◌+◌, ◌<◌, [], ◌∷◌};
 ghost use Rattle.listing_text.specs.Appends.{Appends};
 ghost use Rattle.listing_text.specs.Texts.{decimal, spaced, header_text, label_text, setting_text, end_text, refused_text};
 
 use super::request::Request;
+use itoa::Buffer;
 use std::alloc::AllocError;
 
-// Appends a text.
-fn push_text(out: &mut String, text: &str) -> Result<(), AllocError>
-    ensures text { Appends result out.old text.now out.new }
-{
-    out.push_str(text)
-}
-
-// Appends a decimal digit.
-fn push_digit(out: &mut String, digit: u8) -> Result<(), AllocError>
-    requires { digit < 10 }
-    ensures text { Appends result out.old ((48 + digit) ∷ []) out.new }
-{
-    out.push((b'0' + digit) as char)
-}
-
 // Appends a number, without leading zeros.
+// Kept: pushed and not written by `write!`, which promises nothing of the string after an error, nor success where there is room.
 fn push_number(out: &mut String, n: u32) -> Result<(), AllocError>
     ensures text { Appends result out.old (decimal n) out.new }
 {
-    if n >= 10 {
-        push_number(out, n / 10)?;
-    }
-    push_digit(out, (n % 10) as u8)
+    out.push_str(Buffer::new().format(n))
 }
 
 // Appends a space and a number.
 fn push_spaced(out: &mut String, n: u32) -> Result<(), AllocError>
     ensures text { Appends result out.old (spaced n) out.new }
 {
-    push_text(out, " ")?;
+    out.push_str(" ")?;
     push_number(out, n)
 }
 
@@ -51,7 +34,7 @@ pub fn push_setting(out: &mut String, level: u8, fine: u16) -> Result<(), AllocE
     ensures text { Appends result out.old (setting_text level fine) out.new }
 {
     push_spaced(out, level as u32)?;
-    push_text(out, "/")?;
+    out.push_str("/")?;
     push_number(out, fine as u32)
 }
 
@@ -59,14 +42,14 @@ pub fn push_setting(out: &mut String, level: u8, fine: u16) -> Result<(), AllocE
 pub fn push_end(out: &mut String) -> Result<(), AllocError>
     ensures text { Appends result out.old end_text out.new }
 {
-    push_text(out, "\n")
+    out.push_str("\n")
 }
 
 // Appends the line of a refusal.
 pub fn push_refused(out: &mut String, number: u8) -> Result<(), AllocError>
     ensures text { Appends result out.old (refused_text number) out.new }
 {
-    push_text(out, "refused")?;
+    out.push_str("refused")?;
     push_spaced(out, number as u32)?;
     push_end(out)
 }
@@ -76,7 +59,7 @@ impl Request {
     pub fn push_header(&self, out: &mut String) -> Result<(), AllocError>
         ensures text { Appends result out.old (header_text self.now) out.new }
     {
-        push_text(out, "strip")?;
+        out.push_str("strip")?;
         let numbers = [
             self.levels,
             self.strength,

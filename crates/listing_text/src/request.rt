@@ -13,6 +13,7 @@ pub struct Request {
     pub strength: u32,
     pub factors: u32,
     pub seed: u32,
+    // Kept: a number and no kind, since the header writes any number that stands here.
     pub shuffler: u32,
 }
 

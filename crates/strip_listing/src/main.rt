@@ -1,45 +1,28 @@
 // Prints the strip listing that the first line of standard input asks for. It only reads and prints.
 #![tactic(auto)]
 
-ghost use Rattle.std.specs.Prelude.{◌≤◌, length, IfOk};
-
-use anyhow::anyhow;
-use listing::fault::LineFault;
 use listing::listing::Listing;
 use listing_text::lines::push_refused;
 use listing_text::request::Request;
 use refusal::Fault;
-use std::io::Read;
+use std::io::{BufRead, BufReader, Read};
 
 // Lines are gathered to about so many bytes before they are printed.
 const BLOCK: usize = 65536;
 
-// Reads up to the end of the first line, and no more bytes than can matter: how many there are.
-fn read_line(rt: &HostRuntime, line: &mut [u8]) -> anyhow::Result<usize>
-    ensures { IfOk result (λ n. n ≤ length line.old) }
-{
-    let mut input = rt.stdin();
-    for len in 0..line.len() {
-        let mut byte = [0u8; 1];
-        if input.read(&mut byte)? == 0 {
-            return Ok(len);
-        }
-        line[len] = byte[0];
-        if byte[0] == b'\n' {
-            return Ok(len + 1);
-        }
-    }
-    Ok(line.len())
+// The first line, or as much of it as can matter. The buffer is of one byte, so that nothing behind the line is read.
+fn read_line(rt: &HostRuntime) -> anyhow::Result<Vec<u8>> {
+    let heap = rt.alloc();
+    let input = rt.stdin().take(Request::LONGEST as u64);
+    let mut line = Vec::new(heap);
+    BufReader::with_capacity(heap, 1, input)?.read_until(b'\n', &mut line)?;
+    Ok(line)
 }
 
 // Prints a line for each label, some lines at a time.
 fn print_rows(rt: &HostRuntime, listing: &Listing, out: &mut String) -> anyhow::Result<()> {
     for label in 0..listing.strip.plan.labels {
-        match listing.push_row(out, label) {
-            Ok(()) => {}
-            Err(LineFault::Memory) => return Err(anyhow!("no memory")),
-            Err(LineFault::Refused(_)) => return Err(anyhow!("a row was refused")),
-        }
+        listing.push_row(out, label)?;
         if out.len() >= BLOCK {
             rt.print(out.as_str())?;
             out.clear();
@@ -50,10 +33,9 @@ fn print_rows(rt: &HostRuntime, listing: &Listing, out: &mut String) -> anyhow::
 }
 
 fn run(rt: &HostRuntime) -> anyhow::Result<()> {
-    let mut line = [0u8; Request::LONGEST];
-    let len = read_line(rt, &mut line)?;
+    let line = read_line(rt)?;
     let mut out = String::new(rt.alloc());
-    match Listing::open(&line[0..len]) {
+    match Listing::open(&line) {
         Ok(listing) => {
             listing.request.push_header(&mut out)?;
             print_rows(rt, &listing, &mut out)

@@ -12,15 +12,10 @@ pub struct Table {
 }
 
 impl Table {
-    // The table of no runs.
-    pub fn new(heap: Global, levels: u32, strength: u32, factors: u32) -> Table {
+    // The table of no runs that is claimed to be this.
+    pub fn new(heap: Global, claim: Claim) -> Table {
         Table {
-            claim: Claim {
-                levels,
-                strength,
-                factors,
-                runs: 0,
-            },
+            claim,
             cells: Vec::new(heap),
         }
     }

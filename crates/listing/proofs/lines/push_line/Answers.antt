@@ -1,16 +1,10 @@
-use Rattle.listing_text.proofs.Chains.{along, stops, starts, loop_more, loop_stops, loop_ends}
+use Rattle.listing_text.proofs.Chains.{along, stops, loop_stops, loop_ends}
 use Rattle.strip.specs.Rows.{blank}
 use Rattle.listing.specs.Lines.{cell_text}
 use Rattle.listing.proofs.lines.push_line.Goals as goal
 
 pub returns-in_err-push_label : goal.returns-in_err-push_label
 returns-in_err-push_label c = record { text = stops _ c.from_residual.result c.from_residual.ensures.0 c.in_err-push_label.ensures.text }
-
-pub loop-cell-init : goal.loop-cell-init
-loop-cell-init c = starts
-
-pub loop-cell-preserved : goal.loop-cell-preserved
-loop-cell-preserved c = loop_more cell_text c.args.cells.now c.loop-cell.invariant blank c.loop-cell-test.true c.in_ok-push_setting.ensures.text
 
 pub returns-in_err-push_setting : goal.returns-in_err-push_setting
 returns-in_err-push_setting c =

@@ -1,12 +1,9 @@
 use Rattle.std.proofs.Common.{string_bytes, refl, ap, ◌∙◌}
 use Rattle.listing_text.specs.Texts.{refused_text}
 use Rattle.listing.specs.Listings.{whole_of}
-use Rattle.listing.proofs.Wholes.{opened_count, from_empty, accepted, turned}
+use Rattle.listing.proofs.Wholes.{from_empty, accepted, turned}
 use Rattle.listing.proofs.print.print.Goals as goal
 use Rattle.listing.proofs.print.print.Goals.{in-Ok+in_ok-push_all-in-Ok, in-Err+in_ok-push_refused-in-Err}
-
-pub push_all-requires : goal.push_all-requires
-push_all-requires c = let o = c.in-Ok.ensures in opened_count o.0 c.in-Ok.listing o.2.1
 
 pub returns : goal.returns
 returns c =

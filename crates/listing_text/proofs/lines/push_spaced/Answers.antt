@@ -1,8 +1,8 @@
-use Rattle.listing_text.proofs.Chains.{along, stops}
+use Rattle.std.proofs.Common.{Ok}
+use Rattle.listing_text.proofs.Chains.{pushed, along}
 use Rattle.listing_text.proofs.lines.push_spaced.Goals as goal
 
-pub returns-in_err-push_text : goal.returns-in_err-push_text
-returns-in_err-push_text c = record { text = stops _ c.from_residual.result c.from_residual.ensures.0 c.in_err-push_text.ensures.text }
-
 pub returns : goal.returns
-returns c = record { text = along c.in_ok-push_text.ensures.text c.push_number.ensures.text }
+returns c =
+    let blank = c.in_ok-push_str.ensures in
+    record { text = along (pushed c.args.out.now c.push_str.new.self (Ok tt) _ blank.bytes blank.capacity blank.succeeds) c.push_number.ensures.text }

@@ -1,19 +1,9 @@
-use Rattle.std.proofs.Common.{◌≡◌, Some, None, subst, arith}
+use Rattle.std.proofs.Common.{◌≡◌, None, subst, arith}
 use Rattle.refusal.specs.Table.{refusal}
 use Rattle.levels.specs.Choice.{meaning}
-use Rattle.strip.specs.Faults.{strip_slip}
 use Rattle.strip.specs.Rows.{rows_rows}
-use Rattle.listing.proofs.Carried.{carried}
 use Rattle.listing.proofs.RowCells.{cells_taken}
 use Rattle.listing.proofs.listing.Listing.write_cells.Goals as goal
-
-pub returns-in_err-rows : goal.returns-in_err-rows
-returns-in_err-rows c =
-    let S = c.args.self.now.strip in
-    let f = c.in_err-rows.field-0.0 in
-    carried (rows_rows S.plan (meaning S.ring) c.args.label 1 0 16) f _ c.from_residual.result
-    (subst (λ n. refusal (rows_rows S.plan (meaning S.ring) c.args.label 1 0 n) ≡ Some (strip_slip f)) c.requires c.in_err-rows.ensures.answer)
-    c.from_residual.ensures.1
 
 pub returns : goal.returns
 returns c =
