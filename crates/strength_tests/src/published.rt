@@ -1,5 +1,6 @@
 // Published arrays: what they are at strength 2, at strength 1, taken twice, and at strength 3, which none of them has.
-use crate::common::{Told, ask_whole, cells};
+use crate::common::{Table, cells, no, written, yes};
+use std::alloc::Global;
 use std::process::Abort;
 use std::test::Fail;
 
@@ -8,6 +9,12 @@ pub(crate) struct Published {
     pub(crate) levels: u32,
     pub(crate) factors: u32,
     pub(crate) runs: &'static str,
+}
+
+impl Published {
+    pub(crate) fn table(&self, heap: Global) -> Result<Table<u8>, Fail> {
+        written(heap, self.levels, self.factors, self.runs)
+    }
 }
 
 pub(crate) const L4: Published = Published {
@@ -52,27 +59,12 @@ fn stands(
     zeros: u32,
 ) -> Result<(), Fail> {
     let heap = rt.alloc();
-    let levels = array.levels;
-    let factors = array.factors;
-    let mut table = cells(heap, array.runs)?;
-    assert_eq!(rt;
-        ask_whole(rt, heap, levels, 2, factors, &table)?,
-        Told::Yes(index)
-    );
-    assert_eq!(rt;
-        ask_whole(rt, heap, levels, 1, factors, &table)?,
-        Told::Yes(single)
-    );
-    assert_eq!(rt;
-        ask_whole(rt, heap, levels, 3, factors, &table)?,
-        Told::No(0b111, 0, zeros)
-    );
-    let again = cells(heap, array.runs)?;
-    table.extend_from_slice(&again)?;
-    assert_eq!(rt;
-        ask_whole(rt, heap, levels, 2, factors, &table)?,
-        Told::Yes(index.saturating_mul(2))
-    );
+    let mut table = array.table(heap)?;
+    assert_eq!(rt; table.told(rt, 2)?, yes(index));
+    assert_eq!(rt; table.told(rt, 1)?, yes(single));
+    assert_eq!(rt; table.told(rt, 3)?, no(0b111, 0, zeros));
+    table.cells.extend_from_slice(&cells(heap, array.runs)?)?;
+    assert_eq!(rt; table.told(rt, 2)?, yes(index.saturating_mul(2)));
     Ok(())
 }
 

@@ -1,8 +1,7 @@
 // How long a find and a locate take, and how long looking for the same through the rows does.
 use crate::hashed::Hashed;
-use crate::timing::since;
-use anyhow::anyhow;
-use std::time::Instant;
+use crate::timing::timed;
+use anyhow::{Context, anyhow};
 use strip::cell::Cell;
 use strip::wish::Wish;
 
@@ -12,24 +11,16 @@ const SCANS: u32 = 20;
 
 // Four wishes on different factors, others for each k.
 fn wishes_of(k: u32) -> [Wish; 4] {
-    let mut wishes = [Wish {
-        factor: 0,
-        level: 0,
-    }; 4];
-    let mut j = 0u32;
-    for wish in wishes.iter_mut() {
-        wish.factor = k.wrapping_add(j.wrapping_mul(3)) % 13;
-        wish.level = (k / 13).wrapping_add(j.wrapping_mul(k)) % 13;
-        j = j.wrapping_add(1);
-    }
-    wishes
+    [0u32, 1, 2, 3].map(|j| Wish {
+        factor: k.wrapping_add(j.wrapping_mul(3)) % 13,
+        level: (k / 13).wrapping_add(j.wrapping_mul(k)) % 13,
+    })
 }
 
 fn find(strip: &Hashed, k: u32) -> anyhow::Result<u32> {
-    match strip.find(&wishes_of(k)) {
-        Ok(label) => Ok(label),
-        Err(_) => Err(anyhow!("the wishes are refused")),
-    }
+    strip
+        .find(&wishes_of(k))
+        .map_err(|_| anyhow!("the wishes are refused"))
 }
 
 // A factor and a fine setting, others for each k.
@@ -39,58 +30,54 @@ fn setting_of(k: u32) -> (u32, u32) {
 
 fn locate(strip: &Hashed, k: u32) -> anyhow::Result<u32> {
     let (factor, fine) = setting_of(k);
-    match strip.locate(factor, fine) {
-        Ok(label) => Ok(label),
-        Err(_) => Err(anyhow!("the fine setting is refused")),
-    }
+    strip
+        .locate(factor, fine)
+        .map_err(|_| anyhow!("the fine setting is refused"))
 }
 
-fn has_all(row: &[Cell], wishes: &[Wish]) -> bool {
-    for wish in wishes.iter() {
-        match row.get(wish.factor as usize) {
-            Some(cell) if cell.level as u32 == wish.level => {}
-            _ => return false,
-        }
-    }
-    true
+// The label of the first row that passes.
+fn scan<F: Fn(&[Cell]) -> bool>(table: &[Cell], passes: F) -> anyhow::Result<u32>
+    requires { F.IsAlwaysCallable passes }
+{
+    let label = table
+        .chunks_exact(13)
+        .position(|row| passes(row))
+        .context("no row passes")?;
+    Ok(u32::try_from(label)?)
 }
 
 // The first row that has every wished level.
-fn scan_find(table: &[Cell], k: u32) -> u32 {
+fn scan_find(table: &[Cell], k: u32) -> anyhow::Result<u32> {
     let wishes = wishes_of(k);
-    let mut label = 0u32;
-    for row in table.chunks_exact(13) {
-        if has_all(row, &wishes) {
-            return label;
-        }
-        label = label.wrapping_add(1);
-    }
-    label
+    scan(table, |row| {
+        wishes.iter().all(|wish| {
+            row.get(wish.factor as usize)
+                .is_some_and(|cell| u32::from(cell.level) == wish.level)
+        })
+    })
 }
 
 // The first row that has the fine setting.
-fn scan_locate(table: &[Cell], k: u32) -> u32 {
+fn scan_locate(table: &[Cell], k: u32) -> anyhow::Result<u32> {
     let (factor, fine) = setting_of(k);
-    let mut label = 0u32;
-    for row in table.chunks_exact(13) {
-        match row.get(factor as usize) {
-            Some(cell) if cell.fine as u32 == fine => return label,
-            _ => {}
-        }
-        label = label.wrapping_add(1);
-    }
-    label
+    scan(table, |row| {
+        row.get(factor as usize)
+            .is_some_and(|cell| u32::from(cell.fine) == fine)
+    })
 }
 
-// The time a call, and the sum of the labels that the calls answered.
-fn print_call(
+// Prints the time a call, and the sum of the labels that the calls answered.
+fn print_calls_of<F: Fn(u32) -> anyhow::Result<u32>>(
     rt: &HostRuntime,
     what: &str,
-    start: Instant,
     calls: u32,
-    sum: u32,
-) -> anyhow::Result<()> {
-    let nanos = since(rt, start)?;
+    call: F,
+) -> anyhow::Result<()>
+    requires { F.IsAlwaysCallable call }
+{
+    let (sum, nanos) = timed(rt, || {
+        (0..calls).try_fold(0u32, |sum, k| Ok(sum.wrapping_add(call(k)?)))
+    })?;
     println!(rt;
         "{what}: {calls} calls, {} nanoseconds a call, sum of labels {sum}",
         nanos / calls.max(1) as u128
@@ -98,39 +85,12 @@ fn print_call(
     Ok(())
 }
 
-fn time_calls(rt: &HostRuntime, strip: &Hashed, calls: u32) -> anyhow::Result<()> {
-    let start = Instant::now(rt)?;
-    let mut sum = 0u32;
-    for k in 0..calls {
-        sum = sum.wrapping_add(find(strip, k)?);
-    }
-    print_call(rt, "find", start, calls, sum)?;
-    let start = Instant::now(rt)?;
-    let mut sum = 0u32;
-    for k in 0..calls {
-        sum = sum.wrapping_add(locate(strip, k)?);
-    }
-    print_call(rt, "locate", start, calls, sum)
-}
-
-fn time_scans(rt: &HostRuntime, table: &[Cell]) -> anyhow::Result<()> {
-    let start = Instant::now(rt)?;
-    let mut sum = 0u32;
-    for k in 0..SCANS {
-        sum = sum.wrapping_add(scan_find(table, k));
-    }
-    print_call(rt, "find by scanning", start, SCANS, sum)?;
-    let start = Instant::now(rt)?;
-    let mut sum = 0u32;
-    for k in 0..SCANS {
-        sum = sum.wrapping_add(scan_locate(table, k));
-    }
-    print_call(rt, "locate by scanning", start, SCANS, sum)
-}
-
 // Many calls; and few, whose sums have to be those of the scans.
 pub(crate) fn print_calls(rt: &HostRuntime, strip: &Hashed, table: &[Cell]) -> anyhow::Result<()> {
-    time_calls(rt, strip, CALLS)?;
-    time_calls(rt, strip, SCANS)?;
-    time_scans(rt, table)
+    for calls in [CALLS, SCANS] {
+        print_calls_of(rt, "find", calls, |k| find(strip, k))?;
+        print_calls_of(rt, "locate", calls, |k| locate(strip, k))?;
+    }
+    print_calls_of(rt, "find by scanning", SCANS, |k| scan_find(table, k))?;
+    print_calls_of(rt, "locate by scanning", SCANS, |k| scan_locate(table, k))
 }

@@ -1,9 +1,8 @@
 // How long the check of the whole table of a strip takes.
 use crate::hashed::{Hashed, fill, plan_small, unwritten};
-use crate::timing::{RUNS, print_times, since};
-use anyhow::anyhow;
+use crate::timing::{RUNS, print_times, timed};
+use anyhow::{Context, anyhow};
 use numbers::power;
-use std::time::Instant;
 use strength::checking::check;
 use strength::claim::{Claim, Verdict};
 use strip::cell::Cell;
@@ -20,10 +19,9 @@ fn claim_of(strip: &Hashed) -> Claim {
 
 // The index that the check answers.
 fn index_of(claim: Claim, table: &[Cell], counters: &mut [u32]) -> anyhow::Result<u32> {
-    match check(claim, table, counters) {
-        Ok(Verdict::Yes { index }) => Ok(index),
-        Ok(Verdict::No(_)) => Err(anyhow!("the table is no orthogonal array")),
-        Err(_) => Err(anyhow!("the table is refused")),
+    match check(claim, table, counters).map_err(|_| anyhow!("the table is refused"))? {
+        Verdict::Yes { index } => Ok(index),
+        Verdict::No(_) => Err(anyhow!("the table is no orthogonal array")),
     }
 }
 
@@ -33,16 +31,14 @@ pub(crate) fn print_checks(rt: &HostRuntime) -> anyhow::Result<()> {
     let claim = claim_of(&strip);
     let mut table = unwritten(rt.alloc(), &strip)?;
     fill(&strip, &mut table)?;
-    let Some(combinations) = power(claim.levels, claim.strength) else {
-        return Err(anyhow!("there are too many combinations"));
-    };
+    let combinations = power(claim.levels, claim.strength).context(
+        "there are too many combinations",
+    )?;
     let mut counters = vec![in rt.alloc(); 0u32; combinations as usize]?;
     let mut times = [0u128; RUNS];
     let mut index = 0;
     for time in times.iter_mut() {
-        let start = Instant::now(rt)?;
-        index = index_of(claim, &table, &mut counters)?;
-        *time = since(rt, start)?;
+        (index, *time) = timed(rt, || index_of(claim, &table, &mut counters))?;
     }
     let cells = table.len();
     println!(rt; "check: {cells} cells, {RUNS} runs, yes: index {index}")?;

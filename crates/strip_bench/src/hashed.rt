@@ -9,12 +9,8 @@ use strip::cell::{Cell, Strip};
 pub type Hashed = Strip<Listed, Hash>;
 
 fn planned(levels: u32, strength: u32, factors: u32) -> anyhow::Result<Hashed> {
-    let Ok(ring) = Listed::new(levels) else {
-        return Err(anyhow!("the count is refused"));
-    };
-    let Ok(plan) = Plan::new(levels, strength, factors, 1) else {
-        return Err(anyhow!("the plan is refused"));
-    };
+    let ring = Listed::new(levels).map_err(|_| anyhow!("the count is refused"))?;
+    let plan = Plan::new(levels, strength, factors, 1).map_err(|_| anyhow!("the plan is refused"))?;
     Ok(Strip {
         plan,
         ring,
@@ -40,20 +36,21 @@ pub(crate) fn unwritten(heap: Global, strip: &Hashed) -> Result<Vec<Cell>, Alloc
 
 // Writes all rows.
 pub(crate) fn fill(strip: &Hashed, table: &mut [Cell]) -> anyhow::Result<()> {
-    match strip.rows(0, strip.plan.labels, table, 0) {
-        Ok(()) => Ok(()),
-        Err(_) => Err(anyhow!("the rows are refused")),
-    }
+    strip
+        .rows(0, strip.plan.labels, table, 0)
+        .map_err(|_| anyhow!("the rows are refused"))
+}
+
+// A level followed by its fine setting.
+fn word_of(cell: &Cell) -> u64 {
+    u64::from(cell.level) * 65536 + u64::from(cell.fine)
 }
 
 // The sum over all cells of the index plus 1 times the level followed by the fine setting, modulo 2^32.
 pub(crate) fn checksum(table: &[Cell]) -> u32 {
-    let mut sum = 0u32;
-    let mut place = 0u32;
-    for cell in table.iter() {
-        place = place.wrapping_add(1);
-        let word = cell.level as u32 * 65536 + cell.fine as u32;
-        sum = sum.wrapping_add(place.wrapping_mul(word));
-    }
-    sum
+    let sum = table.iter().map(word_of).zip(1u64..).fold(
+        0u64,
+        |sum, (word, place)| sum.wrapping_add(word.wrapping_mul(place)),
+    );
+    (sum & 0xffffffff) as u32
 }

@@ -14,12 +14,8 @@ use std::env;
 
 // Whether the first argument asks for times.
 fn wants_times(rt: &HostRuntime) -> anyhow::Result<bool> {
-    let mut args = env::args(rt)?;
-    let _name = args.next();
-    match args.next() {
-        Some(word) => Ok(word.as_str() == "time"),
-        None => Ok(false),
-    }
+    let word = env::args(rt)?.nth(1);
+    Ok(word.is_some_and(|word| word.as_str() == "time"))
 }
 
 fn run(rt: &HostRuntime) -> anyhow::Result<()> {

@@ -1,4 +1,4 @@
-// How long the rows of the whole strip take.
+// How long a work takes, and how long the rows of the whole strip do.
 use crate::hashed::{Hashed, checksum, fill};
 use std::time::Instant;
 use strip::cell::Cell;
@@ -6,9 +6,16 @@ use strip::cell::Cell;
 // How often each work is timed.
 pub(crate) const RUNS: usize = 21;
 
-// Nanoseconds since the start.
-pub(crate) fn since(rt: &HostRuntime, start: Instant) -> anyhow::Result<u128> {
-    Ok(start.elapsed(rt)?.as_nanos())
+// What a work gives, and the nanoseconds that it takes.
+pub(crate) fn timed<T: Drop, F: FnOnce() -> anyhow::Result<T> + Drop>(
+    rt: &HostRuntime,
+    work: F,
+) -> anyhow::Result<(T, u128)>
+    requires { F.IsAlwaysCallable work }
+{
+    let start = Instant::now(rt)?;
+    let given = work()?;
+    Ok((given, start.elapsed(rt)?.as_nanos()))
 }
 
 fn print_time(rt: &HostRuntime, what: &str, nanos: u128) -> anyhow::Result<()> {
@@ -36,9 +43,8 @@ pub(crate) fn print_rows(
     let mut times = [0u128; RUNS];
     let mut sum = 0u32;
     for time in times.iter_mut() {
-        let start = Instant::now(rt)?;
-        fill(strip, table)?;
-        *time = since(rt, start)?;
+        let (_, nanos) = timed(rt, || fill(strip, table))?;
+        *time = nanos;
         sum = sum.wrapping_add(checksum(table));
     }
     println!(rt;

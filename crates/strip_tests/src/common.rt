@@ -1,52 +1,52 @@
-// What the tests share: a result that has to be there, a refusal that has to be, and a cell read from its row.
+// What the tests share: a planned strip, both shufflers, a cell read from its row, and what a refusal tells.
 use levels::arithmetic::Ring;
+use plan::shape::Plan;
 use refusal::{Fault, Layer, Slip};
 use shuffle::Shuffler;
-use std::process::Abort;
+use shuffle::any::AnyShuffler;
 use std::test::Fail;
 use strip::cell::{Cell, Strip};
 
-// What an accepted call answers.
-pub(crate) fn accepted<T: Drop, E: Fault + Drop>(res: Result<T, E>) -> Result<T, Fail> {
-    match res {
-        Ok(value) => Ok(value),
-        Err(fault) => Err(Fail::new(format_args!("refused by {}", fault.slip().number))),
-    }
+// Every shuffler.
+pub(crate) const SHUFFLERS: [AnyShuffler; 2] = [AnyShuffler::Turn, AnyShuffler::Hash];
+
+// A strip of as many levels as the arithmetic counts.
+pub(crate) fn planned<R: Ring + Copy, S: Shuffler + Copy>(
+    ring: R,
+    shuffler: S,
+    strength: u32,
+    factors: u32,
+    seed: u32,
+) -> Result<Strip<R, S>, Fail> {
+    let plan = Plan::new(ring.count(), strength, factors, seed)?;
+    Ok(Strip {
+        plan,
+        ring,
+        shuffler,
+    })
 }
 
-// That a call is refused by this slip.
-pub(crate) fn refused<T: Drop, E: Fault + Drop>(
-    rt: &impl Abort,
-    res: Result<T, E>,
-    number: u8,
-    layer: Layer,
-    place: usize,
-) -> Result<(), Fail> {
-    match res {
-        Ok(_) => Err(Fail::new(format_args!("accepted, not refused by {number}"))),
-        Err(fault) => {
-            assert_eq!(rt;
-                fault.slip(),
-                Slip {
-                    number,
-                    layer,
-                    place,
-                }
-            );
-            Ok(())
-        },
+// What a call answers, or the slip of its refusal.
+pub(crate) fn told<T: Drop, E: Fault + Drop>(res: Result<T, E>) -> Result<T, Slip> {
+    res.map_err(|fault| fault.slip())
+}
+
+// The slip of a refusal by the strip.
+pub(crate) fn strip_slip(number: u8, place: usize) -> Slip {
+    Slip {
+        number,
+        layer: Layer::Strip,
+        place,
     }
 }
 
 // A label's cell for a factor, read from its row.
 pub(crate) fn cell<R: Ring, S: Shuffler>(
-    rt: &impl Abort,
     strip: &Strip<R, S>,
     label: u32,
     factor: u32,
 ) -> Result<Cell, Fail> {
-    assert!(rt; factor < 16);
     let mut row = [Cell { level: 0, fine: 0 }; 16];
-    accepted(strip.rows(label, 1, &mut row, 0))?;
-    Ok(row[factor as usize])
+    strip.rows(label, 1, &mut row, 0)?;
+    Ok(*row.get(factor as usize).ok_or("no such factor")?)
 }

@@ -1,26 +1,21 @@
 // Each refusal of an effect, also where several conditions hold at once.
-use crate::common::{accepted, refused};
+use crate::common::{strip_slip, told};
 use book::shape::{Book, Finished};
 use levels::listed::Listed;
 use plan::shape::Plan;
-use refusal::Layer;
+use refusal::{Layer, Slip};
 use shuffle::hash::Hash;
 use std::test::Fail;
-use trial::fault::EffectFault;
 use trial::finished::effect;
 
 // A finished book of two labels that are graded 10 and 30.
 fn graded_pair(words: &mut [u16]) -> Result<Finished, Fail> {
-    let plan = accepted(Plan::new(2, 1, 2, 5))?;
-    let mut book = accepted(Book::open(plan, words))?;
+    let mut book = Book::open(Plan::new(2, 1, 2, 5)?, words)?;
     for grade in [10u32, 30] {
-        let label = accepted(book.take(words))?;
-        accepted(book.mark(words, label, grade))?;
+        let label = book.take(words)?;
+        book.mark(words, label, grade)?;
     }
-    match book.finish(words) {
-        Ok(finished) => Ok(finished),
-        Err(_) => Err(Fail::new("not finished")),
-    }
+    book.finish(words).map_err(|_| Fail::new("not finished"))
 }
 
 // An effect that is asked for by an arithmetic of so many levels, off these words.
@@ -34,9 +29,18 @@ struct Asked<'a> {
 }
 
 impl Asked<'_> {
-    fn answer(&self, book: &Finished) -> Result<Result<i64, EffectFault>, Fail> {
+    fn answer(&self, book: &Finished) -> Result<Result<i64, Slip>, Fail> {
         let ring = Listed::new(self.count)?;
-        Ok(effect(book, &ring, &Hash, self.words, self.factor, self.a, self.b))
+        Ok(told(effect(book, &ring, &Hash, self.words, self.factor, self.a, self.b)))
+    }
+}
+
+// The slip of a refusal by the book.
+fn book_slip(number: u8, place: usize) -> Slip {
+    Slip {
+        number,
+        layer: Layer::Book,
+        place,
     }
 }
 
@@ -47,14 +51,13 @@ fn effect_refusals(rt: HostRuntime) -> Result<(), Fail> {
     let book = graded_pair(&mut words)?;
     let torn = [2000u16, 1];
     let short = [2000u16];
-    let cases = [
-        (3, 9, 9, 9, 1, Layer::Strip, 0),
-        (2, 2, 9, 9, 8, Layer::Book, 0),
-        (2, 1, 2, 9, 9, Layer::Book, 0),
-        (2, 1, 1, 2, 9, Layer::Book, 1),
-        (2, 1, 1, 0, 16, Layer::Book, 0),
-    ];
-    for (count, factor, a, b, number, layer, place) in cases {
+    for (count, factor, a, b, slip) in [
+        (3, 9, 9, 9, strip_slip(1, 0)),
+        (2, 2, 9, 9, book_slip(8, 0)),
+        (2, 1, 2, 9, book_slip(9, 0)),
+        (2, 1, 1, 2, book_slip(9, 1)),
+        (2, 1, 1, 0, book_slip(16, 0)),
+    ] {
         let asked = Asked {
             count,
             words: &torn,
@@ -62,7 +65,7 @@ fn effect_refusals(rt: HostRuntime) -> Result<(), Fail> {
             a,
             b,
         };
-        refused(&rt, asked.answer(&book)?, number, layer, place)?;
+        assert_eq!(rt; asked.answer(&book)?, Err(slip));
     }
     let unfit = Asked {
         count: 2,
@@ -71,7 +74,8 @@ fn effect_refusals(rt: HostRuntime) -> Result<(), Fail> {
         a: 9,
         b: 9,
     };
-    refused(&rt, unfit.answer(&book)?, 6, Layer::Book, 0)
+    assert_eq!(rt; unfit.answer(&book)?, Err(book_slip(6, 0)));
+    Ok(())
 }
 
 // Off labels of which the second is torn, and off the graded ones.
@@ -80,19 +84,25 @@ fn effect_answers(rt: HostRuntime) -> Result<(), Fail> {
     let mut words = [0u16; 2];
     let book = graded_pair(&mut words)?;
     let torn = [12u16, 1003];
-    let mut asked = Asked {
+    let asked = Asked {
         count: 2,
         words: &torn,
         factor: 1,
         a: 1,
         b: 0,
     };
-    refused(&rt, asked.answer(&book)?, 17, Layer::Book, 1)?;
-    asked.words = &words;
-    let up = accepted(asked.answer(&book)?)?;
-    asked.a = 0;
-    asked.b = 1;
-    let down = accepted(asked.answer(&book)?)?;
+    assert_eq!(rt; asked.answer(&book)?, Err(book_slip(17, 1)));
+    let asked = Asked {
+        words: &words,
+        ..asked
+    };
+    let up = asked.answer(&book)??;
+    let down = Asked {
+        a: 0,
+        b: 1,
+        ..asked
+    }
+    .answer(&book)??;
     assert!(rt; up == 20 || up == -20);
     assert!(rt; down == -20 || down == 20);
     assert_ne!(rt; up, down);

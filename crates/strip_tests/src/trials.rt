@@ -1,17 +1,16 @@
 // Whole trials: grades that are a base plus shares, some of them negative, show the shares in the effects.
-use crate::common::accepted;
+use crate::common::{SHUFFLERS, cell, planned};
 use book::calls::Call;
 use levels::arithmetic::Dividing;
 use levels::binary::Binary;
 use levels::listed::Listed;
 use plan::shape::Plan;
 use shuffle::Shuffler;
-use shuffle::hash::Hash;
 use shuffle::turn::Turn;
 use std::alloc::Global;
 use std::process::Abort;
 use std::test::Fail;
-use strip::cell::{Cell, Strip};
+use strip::cell::Strip;
 use trial::conduct::{Outcome, conduct};
 use trial::question::{Question, Reply};
 
@@ -24,15 +23,12 @@ fn share(factor: u32, level: u32) -> i64 {
 
 // The grade of a label: the base plus the share of each factor's level.
 fn grade<R: Dividing, S: Shuffler>(strip: &Strip<R, S>, label: u32) -> Result<u32, Fail> {
-    let mut cells = [Cell { level: 0, fine: 0 }; 16];
-    accepted(strip.rows(label, 1, &mut cells, 0))?;
     let mut sum = BASE;
-    for (j, cell) in cells.iter().enumerate() {
-        if j < strip.plan.factors as usize {
-            sum = sum.saturating_add(share(j as u32, u32::from(cell.level)));
-        }
+    for factor in 0..strip.plan.factors {
+        let level = cell(strip, label, factor)?.level;
+        sum = sum.saturating_add(share(factor, u32::from(level)));
     }
-    Ok(u32::try_from(sum).ok().ok_or("a negative grade")?)
+    Ok(u32::try_from(sum)?)
 }
 
 // Takes and marks every label, and finishes.
@@ -73,10 +69,7 @@ fn tried<R: Dividing, S: Shuffler>(
     questions: &[Question],
 ) -> Result<Outcome, Fail> {
     let mut words = vec![in heap; 0u16; strip.plan.labels as usize]?;
-    match conduct(heap, strip, &mut words, calls, questions) {
-        Ok(outcome) => Ok(outcome),
-        Err(_) => Err(Fail::new("no trial")),
-    }
+    conduct(heap, strip, &mut words, calls, questions).map_err(|_| Fail::new("no trial"))
 }
 
 // That each effect is N/s times the difference of the two shares.
@@ -92,90 +85,53 @@ fn shows_shares<R: Dividing, S: Shuffler>(
     assert_eq!(rt; outcome.replies.len(), questions.len());
     let each = i64::from(plan.labels / plan.levels);
     for (question, reply) in questions.iter().zip(outcome.replies.iter()) {
-        match (question, reply) {
-            (Question::Effect { factor, a, b, .. }, Reply::Effect(Ok(effect))) => {
-                let apart = share(*factor, *a).saturating_sub(share(*factor, *b));
-                assert_eq!(rt; *effect, each.saturating_mul(apart))
-            }
-            _ => return Err(Fail::new("no effect")),
-        }
+        let Question::Effect { factor, a, b, .. } = question else {
+            return Err(Fail::new("no effect"));
+        };
+        let apart = share(*factor, *a).saturating_sub(share(*factor, *b));
+        assert_eq!(rt; *reply, Reply::Effect(Ok(each.saturating_mul(apart))));
     }
     Ok(())
 }
 
-// The same by both shufflers.
-fn by_both<R: Dividing + Copy>(
-    rt: &impl Abort,
-    heap: Global,
-    plan: Plan,
+// The same of a strip by every shuffler.
+fn whole<R: Dividing + Copy>(
+    rt: &(impl Abort + AllocGlobal),
     ring: R,
+    strength: u32,
+    factors: u32,
+    seed: u32,
 ) -> Result<(), Fail> {
-    shows_shares(
-        rt,
-        heap,
-        &Strip {
-            plan,
-            ring,
-            shuffler: Turn,
-        },
-    )?;
-    shows_shares(
-        rt,
-        heap,
-        &Strip {
-            plan,
-            ring,
-            shuffler: Hash,
-        },
-    )
+    for shuffler in SHUFFLERS {
+        let strip = planned(ring, shuffler, strength, factors, seed)?;
+        shows_shares(rt, rt.alloc(), &strip)?;
+    }
+    Ok(())
 }
 
 #[test]
 fn additive_grades(rt: HostRuntime) -> Result<(), Fail> {
-    let heap = rt.alloc();
-    by_both(&rt, heap, accepted(Plan::new(2, 2, 2, 0))?, Listed::new(2)?)?;
-    by_both(&rt, heap, accepted(Plan::new(3, 2, 3, 1))?, Listed::new(3)?)?;
-    by_both(
-        &rt,
-        heap,
-        accepted(Plan::new(7, 3, 7, 0xdeadbeef))?,
-        Listed::new(7)?,
-    )?;
-    by_both(
-        &rt,
-        heap,
-        accepted(Plan::new(4, 2, 4, 0xffffffff))?,
-        Binary::new(4)?,
-    )?;
-    by_both(
-        &rt,
-        heap,
-        accepted(Plan::new(8, 2, 5, 2026))?,
-        Binary::new(8)?,
-    )
+    whole(&rt, Listed::new(2)?, 2, 2, 0)?;
+    whole(&rt, Listed::new(3)?, 2, 3, 1)?;
+    whole(&rt, Listed::new(7)?, 3, 7, 0xdeadbeef)?;
+    whole(&rt, Binary::new(4)?, 2, 4, 0xffffffff)?;
+    whole(&rt, Binary::new(8)?, 2, 5, 2026)
 }
 
 // Without an accepted finish there is no effect to read, and the labels are found all the same.
 #[test]
 fn unfinished(rt: HostRuntime) -> Result<(), Fail> {
     let heap = rt.alloc();
-    let plan = accepted(Plan::new(3, 2, 3, 1))?;
-    let strip = Strip {
-        plan,
-        ring: Listed::new(3)?,
-        shuffler: Turn,
-    };
+    let strip = planned(Listed::new(3)?, Turn, 2, 3, 1)?;
     let calls = [Call::Take { len: 9 }, Call::Finish { len: 9 }];
-    let mut questions = every_effect(heap, plan)?;
+    let mut questions = every_effect(heap, strip.plan)?;
     questions.push(Question::Locate { factor: 1, fine: 5 })?;
     let outcome = tried(heap, &strip, &calls, &questions)?;
-    for (k, reply) in outcome.replies.iter().enumerate() {
-        match reply {
-            Reply::Unfinished => assert!(rt; k < 27),
-            Reply::Label(Ok(label)) => assert_eq!(rt; (k, *label), (27, 4)),
-            _ => return Err(Fail::new("another reply")),
-        }
-    }
-    assert_eq!(rt; outcome.replies.len(), 28);
+    let [effects @ .., located] = outcome.replies.as_slice() else {
+        return Err(Fail::new("no reply"));
+    };
+    assert_eq!(rt; effects.len(), 27);
+    assert!(rt; effects.iter().all(|reply| *reply == Reply::Unfinished));
+    assert_eq!(rt; *located, Reply::Label(Ok(4)));
     Ok(())
 }

@@ -14,15 +14,10 @@ pub struct Effects<'a> {
 impl Effects<'_> {
     // The level with the largest sum, the lowest such level where several have it.
     fn best(&self) -> usize {
-        let mut best = 0;
-        let mut largest = 0;
-        for (level, sum) in self.sums.iter().enumerate() {
-            if *sum > largest {
-                best = level;
-                largest = *sum;
-            }
-        }
-        best
+        // from the highest level down, since the last of several is taken
+        let downward = self.sums.iter().enumerate().rev();
+        let best = downward.max_by_key(|(_, sum)| **sum);
+        best.map_or(0, |(level, _)| level)
     }
 }
 

@@ -1,9 +1,10 @@
 // The commands of a script: how a line of each is written, and what it asks for.
 // Rests on the book's calls and on the trial's questions.
-use crate::text::pair;
 use book::calls::Call;
+use line_text::number::numeral;
 use line_text::words::Words;
-use std::alloc::{AllocError, Global};
+use std::alloc::{AllocError, AllocFailed, Global};
+use std::{array, fmt};
 use strip::wish::Wish;
 use trial::question::Question;
 
@@ -19,39 +20,63 @@ pub enum Command {
     Effect,
 }
 
-// The memory that a line hands to its call: the words of the book, or so many words.
+// Why a line asks for nothing that there is.
 #[derive(Clone, Copy)]
-pub enum Memory {
-    Book,
-    With(u32),
+pub enum Bad {
+    NoCommand,
+    // a line of this command is written otherwise
+    Form(Command),
 }
 
-// What a line asks for.
+// Why nothing was read off a line: want of memory, or a bad line.
+#[derive(Drop)]
+pub enum Unread {
+    Memory(AllocError),
+    Bad(Bad),
+}
+
+impl<T: Drop> From<AllocFailed<T>> for Unread {
+    fn from(failed: AllocFailed<T>) -> Unread {
+        Unread::Memory(AllocError::from(failed))
+    }
+}
+
+impl From<Bad> for Unread {
+    fn from(bad: Bad) -> Unread {
+        Unread::Bad(bad)
+    }
+}
+
+// What a line asks for, with how many words it hands in, where it says so. It hands in the book's words otherwise.
 #[derive(Drop)]
 pub enum Ask {
-    Call(Call, Memory),
-    Question(Question, Memory),
+    Call(Call, Option<u32>),
+    Question(Question, Option<u32>),
 }
 
-impl Command {
+impl TryFrom<&[u8]> for Command {
+    type Error = Bad;
+
     // The command that the first word of a line names.
-    pub fn named(word: &[u8]) -> Option<Command> {
+    fn try_from(word: &[u8]) -> Result<Command, Bad> {
         match word {
-            b"take" => Some(Command::Take),
-            b"mark" => Some(Command::Mark),
-            b"spoil" => Some(Command::Spoil),
-            b"strike" => Some(Command::Strike),
-            b"finish" => Some(Command::Finish),
-            b"find" => Some(Command::Find),
-            b"locate" => Some(Command::Locate),
-            b"effect" => Some(Command::Effect),
-            _ => None,
+            b"take" => Ok(Command::Take),
+            b"mark" => Ok(Command::Mark),
+            b"spoil" => Ok(Command::Spoil),
+            b"strike" => Ok(Command::Strike),
+            b"finish" => Ok(Command::Finish),
+            b"find" => Ok(Command::Find),
+            b"locate" => Ok(Command::Locate),
+            b"effect" => Ok(Command::Effect),
+            _ => Err(Bad::NoCommand),
         }
     }
+}
 
-    // How a line of the command is written.
-    pub fn form(self) -> &'static str {
-        match self {
+// How a line of the command is written.
+impl fmt::Display for Command {
+    fn fmt<W: fmt::Write>(&self, f: &mut fmt::Formatter<W>) -> fmt::Result {
+        f.write_str(match self {
             Command::Take => "take [with WORDS]",
             Command::Mark => "mark LABEL GRADE [with WORDS]",
             Command::Spoil => "spoil LABEL [with WORDS]",
@@ -60,88 +85,87 @@ impl Command {
             Command::Find => "find FACTOR/LEVEL ..",
             Command::Locate => "locate FACTOR/FINE",
             Command::Effect => "effect FACTOR A B [with WORDS]",
-        }
-    }
-
-    // What its line asks of a book of so many labels, by the words after the first; nothing where it is written otherwise.
-    pub fn ask(
-        self,
-        heap: Global,
-        words: &mut Words<'_>,
-        labels: usize,
-    ) -> Result<Option<Ask>, AllocError> {
-        match self {
-            Command::Take => Ok(take(words, labels)),
-            Command::Mark => Ok(mark(words, labels)),
-            Command::Spoil => Ok(spoil(words, labels)),
-            Command::Strike => Ok(strike(words, labels)),
-            Command::Finish => Ok(finish(words, labels)),
-            Command::Find => find(heap, words),
-            Command::Locate => Ok(locate(words)),
-            Command::Effect => Ok(effect(words, labels)),
-        }
+        })
     }
 }
 
-impl Memory {
-    // The memory that the rest of a line names.
-    fn read(words: &mut Words<'_>) -> Option<Memory> {
-        match words.next() {
-            None => Some(Memory::Book),
-            Some(b"with") => {
-                let count = words.number()?;
-                words.end()?;
-                Some(Memory::With(count))
-            }
-            Some(_) => None,
-        }
+impl Command {
+    // What its line asks of a book of so many labels, by the words after the first.
+    pub fn ask(self, heap: Global, words: &mut Words<'_>, labels: usize) -> Result<Ask, Unread> {
+        let asked = match self {
+            Command::Take => call(
+                Handed::read(words, labels),
+                |len, []: [u32; 0]| Call::Take { len },
+            ),
+            Command::Mark => call(
+                Handed::read(words, labels),
+                |len, [label, grade]: [u32; 2]| Call::Mark { len, label, grade },
+            ),
+            Command::Spoil => call(
+                Handed::read(words, labels),
+                |len, [label]: [u32; 1]| Call::Spoil { len, label },
+            ),
+            Command::Strike => call(
+                Handed::read(words, labels),
+                |len, [label]: [u32; 1]| Call::Strike { len, label },
+            ),
+            Command::Finish => call(
+                Handed::read(words, labels),
+                |len, []: [u32; 0]| Call::Finish { len },
+            ),
+            Command::Find => find(heap, words)?,
+            Command::Locate => locate(words),
+            Command::Effect => effect(Handed::read(words, labels)),
+        };
+        Ok(asked.ok_or(Bad::Form(self))?)
     }
+}
 
-    // How many words it has, on a book of so many labels.
-    fn len(self, labels: usize) -> usize {
-        match self {
-            Memory::Book => labels,
-            Memory::With(words) => words as usize,
+// What a line hands to its call: the length of the memory, so many numbers, and how many words the line names, if it does.
+#[derive(Clone, Copy)]
+struct Handed<A> {
+    len: usize,
+    numbers: A,
+    with: Option<u32>,
+}
+
+impl<const N: usize> Handed<[u32; N]> {
+    // Reads the numbers, and how many words the line names after them. The memory is the book's words where it names none.
+    fn read(words: &mut Words<'_>, labels: usize) -> Option<Handed<[u32; N]>> {
+        let mut numbers = [0; N];
+        for number in numbers.iter_mut() {
+            *number = words.number()?;
         }
+        let with = match words.next() {
+            None => None,
+            Some(b"with") => Some(words.number()?),
+            Some(_) => return None,
+        };
+        words.end()?;
+        let len = with.map_or(labels, |count| count as usize);
+        Some(Handed { len, numbers, with })
     }
 }
 
-fn take(words: &mut Words<'_>, labels: usize) -> Option<Ask> {
-    let memory = Memory::read(words)?;
-    let len = memory.len(labels);
-    Some(Ask::Call(Call::Take { len }, memory))
+// The call that is made of what a line hands to it.
+fn call<A: Copy, F: FnOnce(usize, A) -> Call + Drop>(
+    handed: Option<Handed<A>>,
+    make: F,
+) -> Option<Ask>
+    requires { F.IsAlwaysCallable make }
+{
+    let Handed { len, numbers, with } = handed?;
+    Some(Ask::Call(make(len, numbers), with))
 }
 
-fn mark(words: &mut Words<'_>, labels: usize) -> Option<Ask> {
-    let label = words.number()?;
-    let grade = words.number()?;
-    let memory = Memory::read(words)?;
-    let len = memory.len(labels);
-    Some(Ask::Call(Call::Mark { len, label, grade }, memory))
-}
-
-fn spoil(words: &mut Words<'_>, labels: usize) -> Option<Ask> {
-    let label = words.number()?;
-    let memory = Memory::read(words)?;
-    let len = memory.len(labels);
-    Some(Ask::Call(Call::Spoil { len, label }, memory))
-}
-
-fn strike(words: &mut Words<'_>, labels: usize) -> Option<Ask> {
-    let label = words.number()?;
-    let memory = Memory::read(words)?;
-    let len = memory.len(labels);
-    Some(Ask::Call(Call::Strike { len, label }, memory))
-}
-
-fn finish(words: &mut Words<'_>, labels: usize) -> Option<Ask> {
-    let memory = Memory::read(words)?;
-    let len = memory.len(labels);
-    Some(Ask::Call(Call::Finish { len }, memory))
+fn effect(handed: Option<Handed<[u32; 3]>>) -> Option<Ask> {
+    let Handed { len, numbers, with } = handed?;
+    let [factor, a, b] = numbers;
+    Some(Ask::Question(Question::Effect { len, factor, a, b }, with))
 }
 
 // One wish or more, to the end of the line.
-fn find(heap: Global, words: &mut Words<'_>) -> Result<Option<Ask>, AllocError> {
+fn find(heap: Global, words: &mut Words<'_>) -> Result<Option<Ask>, Unread> {
     let mut wishes = Vec::new(heap);
     for word in words {
         let Some((factor, level)) = pair(word) else {
@@ -152,20 +176,17 @@ fn find(heap: Global, words: &mut Words<'_>) -> Result<Option<Ask>, AllocError> 
     if wishes.is_empty() {
         return Ok(None);
     }
-    Ok(Some(Ask::Question(Question::Find(wishes), Memory::Book)))
+    Ok(Some(Ask::Question(Question::Find(wishes), None)))
 }
 
 fn locate(words: &mut Words<'_>) -> Option<Ask> {
     let (factor, fine) = pair(words.next()?)?;
     words.end()?;
-    Some(Ask::Question(Question::Locate { factor, fine }, Memory::Book))
+    Some(Ask::Question(Question::Locate { factor, fine }, None))
 }
 
-fn effect(words: &mut Words<'_>, labels: usize) -> Option<Ask> {
-    let factor = words.number()?;
-    let a = words.number()?;
-    let b = words.number()?;
-    let memory = Memory::read(words)?;
-    let len = memory.len(labels);
-    Some(Ask::Question(Question::Effect { len, factor, a, b }, memory))
+// The two numbers that a word writes with a stroke between them.
+fn pair(word: &[u8]) -> Option<(u32, u32)> {
+    let stroke = word.iter().position(|byte| *byte == b'/')?;
+    Some((numeral(&word[..stroke])?, numeral(&word[stroke + 1..])?))
 }

@@ -6,7 +6,6 @@ mod closing;
 mod command;
 mod report;
 mod script;
-mod text;
 mod told;
 mod wording;
 
@@ -19,7 +18,7 @@ use refusal::Fault;
 use std::io::{BufWriter, Read, Write};
 use strip::cell::Strip;
 use trial::conduct::{TrialFault, conduct};
-use wording::{Header, Refusal, reason};
+use wording::{Header, Reason, Refusal};
 
 // Holds the trial of a strip over this arithmetic, by the script whose first line asked for it, and prints it.
 fn hold<R: Dividing + Copy>(
@@ -36,14 +35,15 @@ fn hold<R: Dividing + Copy>(
     };
     let script = script::Script::read(heap, text, strip.plan)?;
     let mut words = vec![in heap; 0u16; strip.plan.labels as usize]?;
-    let outcome = match conduct(heap, &strip, &mut words, &script.calls, &script.questions) {
-        Ok(outcome) => outcome,
-        Err(TrialFault::Memory) => return Err(anyhow!("no memory")),
-        Err(_) => return Err(anyhow!("the trial was not begun")),
-    };
+    let outcome = conduct(heap, &strip, &mut words, &script.calls, &script.questions).map_err(
+        |fault| match fault {
+            TrialFault::Memory => anyhow!("no memory"),
+            _ => anyhow!("the trial was not begun"),
+        },
+    )?;
     let mut out = BufWriter::new(heap, rt.stdout())?;
     writeln!(out, "{}", Header(listing.request))?;
-    report::print(&mut out, &strip, &script, &outcome, &words)?;
+    report::print(heap, &mut out, &strip, &script, &outcome, &words)?;
     out.flush()?;
     Ok(())
 }
@@ -54,7 +54,7 @@ fn answer(rt: &HostRuntime, listing: Listing, text: &[u8]) -> anyhow::Result<()>
         AnyRing::Listed(ring) => hold(rt, listing, ring, text),
         AnyRing::Binary(ring) => hold(rt, listing, ring, text),
         AnyRing::Clock(_) => {
-            println!(rt; "1 no trial: {}", reason(4))?;
+            println!(rt; "1 no trial: {}", Reason(4))?;
             Ok(())
         }
     }

@@ -1,34 +1,24 @@
 // A script: its lines in order, with the calls and the questions that they ask for. Rests on the commands.
-use crate::command::{Ask, Command, Memory};
-use crate::text::Lines;
+use crate::command::{Ask, Bad, Command, Unread};
 use book::calls::Call;
 use line_text::words::Words;
 use plan::shape::Plan;
 use std::alloc::{AllocError, Global};
 use trial::question::Question;
 
-// Why a line asks for nothing that there is.
-#[derive(Clone, Copy)]
-pub enum Bad {
-    NoCommand,
-    // a line of this command is written otherwise
-    Form(Command),
-}
-
-// What a line holds.
+// What a line asks for, with how many words it hands in, where it says so.
 #[derive(Clone, Copy)]
 pub enum Content {
-    Call(Call, Memory),
+    Call(Call, Option<u32>),
     // the question that comes next among the script's
-    Question(Memory),
-    Bad(Bad),
+    Question(Option<u32>),
 }
 
 // A line that asks for something, with its number.
 #[derive(Clone, Copy)]
 pub struct Entry {
     pub line: usize,
-    pub content: Content,
+    pub content: Result<Content, Bad>,
 }
 
 #[derive(Drop)]
@@ -47,7 +37,8 @@ impl Script {
             calls: Vec::new(heap),
             questions: Vec::new(heap),
         };
-        for (i, line) in Lines::of(text).enumerate().skip(1) {
+        let lines = text.split(|byte| *byte == b'\n');
+        for (i, line) in lines.enumerate().skip(1) {
             script.push_line(heap, i.saturating_add(1), line, plan.labels as usize)?;
         }
         script.push_closing(plan)?;
@@ -66,30 +57,34 @@ impl Script {
         let Some(first) = words.next() else {
             return Ok(());
         };
-        if let [b'#', ..] = first {
+        if first.starts_with(b"#") {
             return Ok(());
         }
-        let content = match Command::named(first) {
-            None => Content::Bad(Bad::NoCommand),
-            Some(command) => match command.ask(heap, &mut words, labels)? {
-                None => Content::Bad(Bad::Form(command)),
-                Some(ask) => self.push_ask(ask)?,
-            },
+        let content = match self.push_ask(heap, first, &mut words, labels) {
+            Ok(content) => Ok(content),
+            Err(Unread::Bad(bad)) => Err(bad),
+            Err(Unread::Memory(error)) => return Err(error),
         };
         self.entries.push(Entry { line, content })?;
         Ok(())
     }
 
-    // Adds a call or a question.
-    fn push_ask(&mut self, ask: Ask) -> Result<Content, AllocError> {
-        match ask {
-            Ask::Call(call, memory) => {
+    // Adds the call or the question that a line asks for by its first word and the others.
+    fn push_ask(
+        &mut self,
+        heap: Global,
+        first: &[u8],
+        words: &mut Words<'_>,
+        labels: usize,
+    ) -> Result<Content, Unread> {
+        match Command::try_from(first)?.ask(heap, words, labels)? {
+            Ask::Call(call, with) => {
                 self.calls.push(call)?;
-                Ok(Content::Call(call, memory))
+                Ok(Content::Call(call, with))
             }
-            Ask::Question(question, memory) => {
+            Ask::Question(question, with) => {
                 self.questions.push(question)?;
-                Ok(Content::Question(memory))
+                Ok(Content::Question(with))
             }
         }
     }

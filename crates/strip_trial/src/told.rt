@@ -6,71 +6,71 @@ use shuffle::any::AnyShuffler;
 use strip::cell::{Cell, Strip};
 use trial::question::Reply;
 
-// No strip has more factors than these.
-const FACTORS: usize = 16;
-
-// A label with its cells, of which only so many stand for factors.
+// A label with its cells, one for each factor.
 #[derive(Clone, Copy)]
-pub struct Row {
+pub struct Row<'a> {
     pub label: u32,
-    pub cells: [Cell; FACTORS],
-    pub factors: usize,
+    pub cells: &'a [Cell],
 }
 
 #[derive(Clone, Copy)]
-pub enum Told {
-    Taken(Row),
+pub enum Told<'a> {
+    Taken(Row<'a>),
     Graded,
     Waiting,
     Finished,
     Label(u32),
     Effect(i64),
+}
+
+// Why a line is told nothing of these: refused, or turned away.
+#[derive(Clone, Copy)]
+pub enum Denied {
     Refused(Slip),
-    // turned away: a grading line after an accepted finish
+    // a grading line after an accepted finish
     AfterFinish,
-    // turned away: an effect before it
+    // an effect before it
     BeforeFinish,
 }
 
-impl Told {
-    // What is told of a call, which has no answer where a finish was accepted before it.
+impl From<Slip> for Denied {
+    fn from(slip: Slip) -> Denied {
+        Denied::Refused(slip)
+    }
+}
+
+impl<'a> Told<'a> {
+    // What is told of a call, which has no answer where a finish was accepted before it. The row of a label that was
+    // taken is written into the cells, which are as many as the factors.
     pub fn of_call<R: Dividing>(
         strip: &Strip<R, AnyShuffler>,
         call: Call,
-        answer: Option<Answer>,
-    ) -> Told {
-        match (answer, call) {
-            (None, _) => Told::AfterFinish,
-            (Some(Answer::Took(label)), _) => Told::of_taken(strip, label),
-            (Some(Answer::Done), Call::Mark { .. }) => Told::Graded,
-            (Some(Answer::Done), _) => Told::Waiting,
-            (Some(Answer::Finished), _) => Told::Finished,
-            (Some(Answer::Refused(slip)), _) => Told::Refused(slip),
-        }
-    }
-
-    // What is told of a label that was taken.
-    fn of_taken<R: Dividing>(strip: &Strip<R, AnyShuffler>, label: u32) -> Told {
-        let mut cells = [Cell { level: 0, fine: 0 }; FACTORS];
-        match strip.rows(label, 1, &mut cells, 0) {
-            Ok(()) => Told::Taken(Row {
-                label,
-                cells,
-                factors: strip.plan.factors as usize,
-            }),
-            Err(fault) => Told::Refused(fault.slip()),
+        answer: Option<Result<Answer, Slip>>,
+        cells: &'a mut [Cell],
+    ) -> Result<Told<'a>, Denied> {
+        match answer.ok_or(Denied::AfterFinish)?? {
+            Answer::Took(label) => {
+                strip
+                    .rows(label, 1, cells, 0)
+                    .map_err(|fault| fault.slip())?;
+                Ok(Told::Taken(Row { label, cells }))
+            }
+            Answer::Done => match call {
+                Call::Mark { .. } => Ok(Told::Graded),
+                _ => Ok(Told::Waiting),
+            },
+            Answer::Finished => Ok(Told::Finished),
         }
     }
 
     // What is told of a question, by whether it stands after an accepted finish.
-    pub fn of_question(reply: Reply, finished: bool) -> Told {
+    pub fn of_question(reply: Reply, finished: bool) -> Result<Told<'a>, Denied> {
         match reply {
-            Reply::Label(Ok(label)) => Told::Label(label),
-            Reply::Label(Err(fault)) => Told::Refused(fault.slip()),
-            Reply::Effect(_) if !finished => Told::BeforeFinish,
-            Reply::Effect(Ok(value)) => Told::Effect(value),
-            Reply::Effect(Err(fault)) => Told::Refused(fault.slip()),
-            Reply::Unfinished => Told::BeforeFinish,
+            Reply::Label(label) => Ok(Told::Label(label.map_err(|fault| fault.slip())?)),
+            Reply::Effect(effect) if finished => {
+                Ok(Told::Effect(effect.map_err(|fault| fault.slip())?))
+            }
+            Reply::Effect(_) | Reply::Unfinished => Err(Denied::BeforeFinish),
         }
     }
 }

@@ -1,47 +1,41 @@
 // The words in which calls, questions, answers and refusals are printed. Rests on what each line is told.
-use crate::command::Memory;
-use crate::script::Bad;
-use crate::told::{Row, Told};
+use crate::command::Bad;
+use crate::told::{Denied, Row, Told};
 use book::calls::Call;
 use listing_text::request::Request;
-use refusal::{Layer, Slip};
+use refusal::Slip;
 use std::fmt;
+use strip::cell::Cell;
 use strip::wish::Wish;
 use trial::question::Question;
 
 // The reason that a refusal's number stands for.
-pub fn reason(number: u8) -> &'static str {
-    match number {
-        1 => "no arithmetic of this count",
-        2 => "the factors are none, or more than the levels",
-        3 => "the strength is 0, or above the factors",
-        4 => "no arithmetic of so many levels divides",
-        5 => "more than 65536 labels",
-        6 => "the words handed in are not as many as the labels",
-        7 => "no such label",
-        8 => "no such factor",
-        9 => "no such level or fine setting",
-        10 => "the grade is above 1000",
-        11 => "the wishes are not as many as the strength",
-        12 => "a factor is wished for again",
-        13 => "the label does not stand as the call needs it",
-        14 => "no label waits, and some label is out",
-        15 => "strip done",
-        16 => "some label is not graded",
-        17 => "a torn word",
-        18 => "the first line is malformed",
-        _ => "no reason has this number",
-    }
-}
+#[derive(Clone, Copy)]
+pub struct Reason(pub u8);
 
-fn layer_name(layer: Layer) -> &'static str {
-    match layer {
-        Layer::Arithmetic => "arithmetic",
-        Layer::Plan => "plan",
-        Layer::Strip => "strip",
-        Layer::Book => "book",
-        Layer::Checker => "checker",
-        Layer::Listing => "listing",
+impl fmt::Display for Reason {
+    fn fmt<W: fmt::Write>(&self, f: &mut fmt::Formatter<W>) -> fmt::Result {
+        f.write_str(match self.0 {
+            1 => "no arithmetic of this count",
+            2 => "the factors are none, or more than the levels",
+            3 => "the strength is 0, or above the factors",
+            4 => "no arithmetic of so many levels divides",
+            5 => "more than 65536 labels",
+            6 => "the words handed in are not as many as the labels",
+            7 => "no such label",
+            8 => "no such factor",
+            9 => "no such level or fine setting",
+            10 => "the grade is above 1000",
+            11 => "the wishes are not as many as the strength",
+            12 => "a factor is wished for again",
+            13 => "the label does not stand as the call needs it",
+            14 => "no label waits, and some label is out",
+            15 => "strip done",
+            16 => "some label is not graded",
+            17 => "a torn word",
+            18 => "the first line is malformed",
+            _ => "no reason has this number",
+        })
     }
 }
 
@@ -55,9 +49,8 @@ impl fmt::Display for Refusal {
             layer,
             place,
         } = self.0;
-        let name = layer_name(layer);
-        let reason = reason(number);
-        write!(f, "refused {number} by {name} at {place}: {reason}")
+        let reason = Reason(number);
+        write!(f, "refused {number} by {layer} at {place}: {reason}")
     }
 }
 
@@ -82,16 +75,20 @@ impl fmt::Display for Bad {
     fn fmt<W: fmt::Write>(&self, f: &mut fmt::Formatter<W>) -> fmt::Result {
         match self {
             Bad::NoCommand => f.write_str("no such command"),
-            Bad::Form(command) => write!(f, "expected {}", command.form()),
+            Bad::Form(command) => write!(f, "expected {command}"),
         }
     }
 }
 
-impl fmt::Display for Memory {
+// How many words a line hands in, where it says so.
+#[derive(Clone, Copy)]
+pub struct With(pub Option<u32>);
+
+impl fmt::Display for With {
     fn fmt<W: fmt::Write>(&self, f: &mut fmt::Formatter<W>) -> fmt::Result {
-        match self {
-            Memory::Book => Ok(()),
-            Memory::With(words) => write!(f, " with {words}"),
+        match self.0 {
+            None => Ok(()),
+            Some(words) => write!(f, " with {words}"),
         }
     }
 }
@@ -132,20 +129,18 @@ impl fmt::Display for QuestionText<'_> {
     }
 }
 
-impl fmt::Display for Row {
+impl fmt::Display for Row<'_> {
     fn fmt<W: fmt::Write>(&self, f: &mut fmt::Formatter<W>) -> fmt::Result {
         let label = self.label;
         write!(f, "label {label},")?;
-        for cell in self.cells.iter().take(self.factors) {
-            let level = cell.level;
-            let fine = cell.fine;
+        for Cell { level, fine } in self.cells {
             write!(f, " {level}/{fine}")?;
         }
         Ok(())
     }
 }
 
-impl fmt::Display for Told {
+impl fmt::Display for Told<'_> {
     fn fmt<W: fmt::Write>(&self, f: &mut fmt::Formatter<W>) -> fmt::Result {
         match self {
             Told::Taken(row) => write!(f, "{row}"),
@@ -154,9 +149,16 @@ impl fmt::Display for Told {
             Told::Finished => f.write_str("finished"),
             Told::Label(label) => write!(f, "label {label}"),
             Told::Effect(value) => write!(f, "{value}"),
-            Told::Refused(slip) => write!(f, "{}", Refusal(*slip)),
-            Told::AfterFinish => f.write_str("turned away: the book is finished"),
-            Told::BeforeFinish => f.write_str("turned away: the book is not finished"),
+        }
+    }
+}
+
+impl fmt::Display for Denied {
+    fn fmt<W: fmt::Write>(&self, f: &mut fmt::Formatter<W>) -> fmt::Result {
+        match self {
+            Denied::Refused(slip) => write!(f, "{}", Refusal(*slip)),
+            Denied::AfterFinish => f.write_str("turned away: the book is finished"),
+            Denied::BeforeFinish => f.write_str("turned away: the book is not finished"),
         }
     }
 }
