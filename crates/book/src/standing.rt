@@ -18,8 +18,8 @@ impl Standing {
         match word {
             0 => Standing::Waiting,
             1 => Standing::Out,
-            2..=1002 => Standing::Graded(word - 2),
-            _ => Standing::Torn,
+            w if w > 1002 => Standing::Torn,
+            2.. => Standing::Graded(word - 2),
         }
     }
 

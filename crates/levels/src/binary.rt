@@ -23,6 +23,7 @@ pub struct Binary {
 }
 
 impl Binary {
+    // Kept: beside those of the other two, since each has counts of its own as its invariant.
     pub fn new(count: u32) -> Result<Binary, ArithmeticFault>
         ensures answer { Answers told (unserved (binary_serves count)) (λ v. v.count ≡ count) result }
     {

@@ -11,6 +11,7 @@ pub enum ArithmeticFault {
 impl Fault for ArithmeticFault {
     ghost tells = { told };
 
+    // Kept: the refusal table's format needs the number and the place of its row.
     fn slip(&self) -> Slip {
         match self {
             ArithmeticFault::Unserved => Slip {

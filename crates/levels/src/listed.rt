@@ -157,6 +157,7 @@ pub struct Listed {
 }
 
 impl Listed {
+    // Kept: beside those of the other two, since each has counts of its own as its invariant.
     pub fn new(count: u32) -> Result<Listed, ArithmeticFault>
         ensures answer { Answers told (unserved (listed_serves count)) (λ v. v.count ≡ count) result }
     {

@@ -1,6 +1,6 @@
 // Why there is no listing, with the faults of the layers below whole inside.
-ghost use Rattle.std.specs.Prelude.{◌≡◌};
-ghost use Rattle.listing.specs.Faults.{listing_slip};
+ghost use Rattle.std.specs.Prelude.{◌≡◌, Some};
+ghost use Rattle.listing.specs.Faults.{listing_slip, line_fault_name};
 ghost use Rattle.listing.specs.declared.fault.LineFault.TheVariants.{Memory, Refused};
 ghost use Rattle.listing.specs.declared.fault.ListingFault.TheVariants.{Arithmetic, Plan, Strip};
 
@@ -24,6 +24,7 @@ pub enum ListingFault {
 impl Fault for ListingFault {
     ghost tells = { listing_slip };
 
+    // Kept: the refusal table's format needs the number and the place of its row.
     fn slip(&self) -> Slip {
         match self {
             ListingFault::Malformed => Slip {
@@ -71,6 +72,8 @@ pub enum LineFault {
 }
 
 impl fmt::Display for LineFault {
+    ghost output = { λ fault. Some (line_fault_name fault) };
+
     fn fmt<W: fmt::Write>(&self, f: &mut fmt::Formatter<W>) -> fmt::Result {
         match self {
             LineFault::Memory => f.write_str("no memory"),
@@ -81,6 +84,7 @@ impl fmt::Display for LineFault {
 
 impl Error for LineFault {}
 
+// Kept: written by hand, as clauses read `from_gives`, which the derive of the crate thiserror does not give.
 impl From<AllocError> for LineFault {
     ghost from_gives = { λ _ r. r ≡ Memory };
 

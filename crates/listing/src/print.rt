@@ -22,6 +22,7 @@ use shuffle::any::AnyShuffler;
 use std::alloc::Global;
 use strip::cell::{Cell, Strip};
 
+// Kept: a function, as a `From` would say that every number names a shuffler.
 // The shuffler that a number names: 0 the turn, and else the hash.
 fn shuffler_named(number: u32) -> AnyShuffler
     ensures { ways_of result ≡ ways_for number }
@@ -61,7 +62,7 @@ impl Listing {
         ensures text { RowPushed self.now label (string_bytes out.old) (string_bytes out.new) result }
         ensures room { string_len out.old + length (line_of self.now label) ≤ string_capacity out.old → result ≢ Err Memory }
     {
-        // Kept: an array of the most cells, since a Vec could want memory where the string has room.
+        // Kept: an array of the most cells, since a Vec could want memory where the string has room, and an ArrayVec would first be filled.
         let mut cells = [Cell { level: 0, fine: 0 }; 16];
         self.write_cells(label, &mut cells)?;
         push_line(out, label, &cells[0..self.strip.plan.factors as usize])?;

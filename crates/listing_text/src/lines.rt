@@ -46,6 +46,7 @@ pub fn push_end(out: &mut String) -> Result<(), AllocError>
 }
 
 // Appends the line of a refusal.
+// Kept: by its number, which is what the refusal table's format has.
 pub fn push_refused(out: &mut String, number: u8) -> Result<(), AllocError>
     ensures text { Appends result out.old (refused_text number) out.new }
 {

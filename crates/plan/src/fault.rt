@@ -22,6 +22,7 @@ pub enum PlanFault {
 impl Fault for PlanFault {
     ghost tells = { plan_slip };
 
+    // Kept: the refusal table's format needs the number and the place of its row.
     fn slip(&self) -> Slip {
         Slip {
             number: *self as u8,

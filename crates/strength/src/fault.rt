@@ -22,6 +22,7 @@ pub enum CheckerFault {
 impl Fault for CheckerFault {
     ghost tells = { checker_slip };
 
+    // Kept: the refusal table's format needs the number and the place of its row.
     fn slip(&self) -> Slip {
         let (number, place) = match *self {
             CheckerFault::Levels => (1, 0),

@@ -45,9 +45,7 @@ pub(crate) fn accept<C: Levelled>(
     if claim.strength == 0 || claim.strength > claim.factors {
         return Err(CheckerFault::Strength);
     }
-    let Some(combinations) = power(claim.levels, claim.strength) else {
-        return Err(CheckerFault::Size);
-    };
+    let combinations = power(claim.levels, claim.strength).ok_or(CheckerFault::Size)?;
     if claim.runs == 0 || claim.runs > 65536 {
         return Err(CheckerFault::Size);
     }

@@ -26,6 +26,7 @@ pub(crate) fn ask<C: Levelled>(
     Ok(told)
 }
 
+// Kept: these three stand in the checker's own tests too, as the two crates share no third.
 // The slip of a refusal by the checker.
 pub(crate) fn slip(number: u8, place: usize) -> Slip {
     Slip {

@@ -16,6 +16,7 @@ use strength::claim::{Failure, Verdict};
 use strip::cell::{Cell, Strip};
 use strip_array::table::write_table;
 
+// Kept: the same in both crates of tests, which share no third.
 // A strip of as many levels as the arithmetic counts.
 fn planned<R: Ring + Copy, S: Shuffler + Copy>(
     ring: R,

@@ -27,6 +27,7 @@ pub enum StripFault {
 impl Fault for StripFault {
     ghost tells = { strip_slip };
 
+    // Kept: the refusal table's format needs the number and the place of its row.
     fn slip(&self) -> Slip {
         let (number, place) = match *self {
             StripFault::Count => (1, 0),

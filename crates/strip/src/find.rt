@@ -1,6 +1,6 @@
 // Find: from t wishes back to the one label that has them all, by interpolation over any ring that divides.
-ghost use Rattle.std.specs.Prelude.{◌≡◌, ◌==◌, ℕ, ◌<◌, ◌≤◌, List, ◌∷◌, length, nat_le};
-ghost use Rattle.std.specs.List.{list_any, position};
+ghost use Rattle.std.specs.Prelude.{◌≡◌, ◌==◌, ℕ, ◌<◌, ◌≤◌, List, ◌∷◌, length, nat_le, take};
+ghost use Rattle.std.specs.List.{enumerate_from, list_any, position};
 ghost use Rattle.refusal.specs.Table.{Answers, Sought};
 ghost use Rattle.algebra.specs.Units.{Divides};
 ghost use Rattle.algebra.specs.Interpolation.{slopes, rebuild, interp};
@@ -43,15 +43,12 @@ fn names(wishes: &[Wish], factor: u32) -> bool
 
 // The first wish that names the factor of an earlier one.
 fn repeated(wishes: &[Wish]) -> Option<usize>
-    ensures { Sought (repeats wishes.now) (length wishes.now) result }
+    ensures { result ≡ position (λ p. list_any (λ w. w.factor == p.1.factor) (take p.0 wishes.now)) (enumerate_from 0 wishes.now) }
 {
-    // Kept: a loop that returns, as the test of a wish reads those before it, which no chain over the wishes hands on.
-    for (k, wish) in wishes.iter().enumerate() {
-        if names(&wishes[..k], wish.factor) {
-            return Some(k);
-        }
-    }
-    None
+    wishes
+        .iter()
+        .enumerate()
+        .position(|(k, wish)| names(&wishes[..k], wish.factor))
 }
 
 // Asks for the inverse of every code, so that what each answer promises is known of them all.

@@ -80,7 +80,7 @@ fn print_calls_of<F: Fn(u32) -> anyhow::Result<u32>>(
     })?;
     println!(rt;
         "{what}: {calls} calls, {} nanoseconds a call, sum of labels {sum}",
-        nanos / calls.max(1) as u128
+        nanos / u128::from(calls.max(1))
     )?;
     Ok(())
 }

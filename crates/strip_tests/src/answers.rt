@@ -1,9 +1,10 @@
 // Find and locate against the rows, for every choice of wishes and every fine setting of some strips.
-use crate::common::{SHUFFLERS, cell, planned, strip_slip, told};
+use crate::common::{SHUFFLERS, cell, planned, slip, told};
 use levels::arithmetic::{Dividing, Ring};
 use levels::binary::Binary;
 use levels::listed::Listed;
 use plan::shape::Plan;
+use refusal::Layer;
 use shuffle::Shuffler;
 use std::alloc::Global;
 use std::process::Abort;
@@ -30,7 +31,7 @@ fn finds<R: Dividing, S: Shuffler>(
     wishes: &[Wish],
 ) -> Result<(), Fail> {
     if let Some(k) = repeated(wishes) {
-        assert_eq!(rt; told(strip.find(wishes)), Err(strip_slip(12, k)));
+        assert_eq!(rt; told(strip.find(wishes)), Err(slip(Layer::Strip, 12, k)));
         return Ok(());
     }
     let label = strip.find(wishes)?;

@@ -10,6 +10,7 @@ use strip::cell::{Cell, Strip};
 // Every shuffler.
 pub(crate) const SHUFFLERS: [AnyShuffler; 2] = [AnyShuffler::Turn, AnyShuffler::Hash];
 
+// Kept: the same in both crates of tests, which share no third.
 // A strip of as many levels as the arithmetic counts.
 pub(crate) fn planned<R: Ring + Copy, S: Shuffler + Copy>(
     ring: R,
@@ -31,11 +32,11 @@ pub(crate) fn told<T: Drop, E: Fault + Drop>(res: Result<T, E>) -> Result<T, Sli
     res.map_err(|fault| fault.slip())
 }
 
-// The slip of a refusal by the strip.
-pub(crate) fn strip_slip(number: u8, place: usize) -> Slip {
+// The slip of a refusal by a layer.
+pub(crate) fn slip(layer: Layer, number: u8, place: usize) -> Slip {
     Slip {
         number,
-        layer: Layer::Strip,
+        layer,
         place,
     }
 }
@@ -46,6 +47,7 @@ pub(crate) fn cell<R: Ring, S: Shuffler>(
     label: u32,
     factor: u32,
 ) -> Result<Cell, Fail> {
+    // Kept: as many cells as any strip has factors, since the caller hands no heap.
     let mut row = [Cell { level: 0, fine: 0 }; 16];
     strip.rows(label, 1, &mut row, 0)?;
     Ok(*row.get(factor as usize).ok_or("no such factor")?)

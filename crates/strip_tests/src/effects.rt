@@ -1,5 +1,5 @@
 // Each refusal of an effect, also where several conditions hold at once.
-use crate::common::{strip_slip, told};
+use crate::common::{slip, told};
 use book::shape::{Book, Finished};
 use levels::listed::Listed;
 use plan::shape::Plan;
@@ -35,15 +35,6 @@ impl Asked<'_> {
     }
 }
 
-// The slip of a refusal by the book.
-fn book_slip(number: u8, place: usize) -> Slip {
-    Slip {
-        number,
-        layer: Layer::Book,
-        place,
-    }
-}
-
 // Off labels of which the first is torn and the second out, where all that is wrong from some row of the table on holds.
 #[test]
 fn effect_refusals(rt: HostRuntime) -> Result<(), Fail> {
@@ -52,11 +43,11 @@ fn effect_refusals(rt: HostRuntime) -> Result<(), Fail> {
     let torn = [2000u16, 1];
     let short = [2000u16];
     for (count, factor, a, b, slip) in [
-        (3, 9, 9, 9, strip_slip(1, 0)),
-        (2, 2, 9, 9, book_slip(8, 0)),
-        (2, 1, 2, 9, book_slip(9, 0)),
-        (2, 1, 1, 2, book_slip(9, 1)),
-        (2, 1, 1, 0, book_slip(16, 0)),
+        (3, 9, 9, 9, slip(Layer::Strip, 1, 0)),
+        (2, 2, 9, 9, slip(Layer::Book, 8, 0)),
+        (2, 1, 2, 9, slip(Layer::Book, 9, 0)),
+        (2, 1, 1, 2, slip(Layer::Book, 9, 1)),
+        (2, 1, 1, 0, slip(Layer::Book, 16, 0)),
     ] {
         let asked = Asked {
             count,
@@ -74,7 +65,7 @@ fn effect_refusals(rt: HostRuntime) -> Result<(), Fail> {
         a: 9,
         b: 9,
     };
-    assert_eq!(rt; unfit.answer(&book)?, Err(book_slip(6, 0)));
+    assert_eq!(rt; unfit.answer(&book)?, Err(slip(Layer::Book, 6, 0)));
     Ok(())
 }
 
@@ -91,7 +82,7 @@ fn effect_answers(rt: HostRuntime) -> Result<(), Fail> {
         a: 1,
         b: 0,
     };
-    assert_eq!(rt; asked.answer(&book)?, Err(book_slip(17, 1)));
+    assert_eq!(rt; asked.answer(&book)?, Err(slip(Layer::Book, 17, 1)));
     let asked = Asked {
         words: &words,
         ..asked

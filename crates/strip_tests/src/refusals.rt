@@ -1,8 +1,8 @@
 // Each refusal, also where several conditions hold at once, and what a call leaves as it was.
-use crate::common::{cell, strip_slip, told};
+use crate::common::{cell, slip, told};
 use levels::listed::Listed;
 use plan::shape::Plan;
-use refusal::{Layer, Slip};
+use refusal::Layer;
 use shuffle::hash::Hash;
 use std::alloc::Global;
 use std::process::Abort;
@@ -60,7 +60,10 @@ fn rows_answer(
     let heap = rt.alloc();
     let mut table = [BEFORE; ROOM];
     let answer = told(strip.rows(first, count, &mut table, start));
-    assert_eq!(rt; answer, expected.map_err(|number| strip_slip(number, 0)));
+    assert_eq!(rt;
+        answer,
+        expected.map_err(|number| slip(Layer::Strip, number, 0))
+    );
     let left = match expected {
         Ok(()) => written(heap, strip, first, count, start)?,
         Err(_) => vec![in heap; BEFORE; ROOM]?,
@@ -100,8 +103,11 @@ fn wish(factor: u32, level: u32) -> Wish {
 
 // That find refuses these wishes so, and by its first row where the count is wrong.
 fn find_refused(rt: &impl Abort, wishes: &[Wish], number: u8, place: usize) -> Result<(), Fail> {
-    assert_eq!(rt; told(nine(3)?.find(wishes)), Err(strip_slip(number, place)));
-    assert_eq!(rt; told(nine(5)?.find(wishes)), Err(strip_slip(1, 0)));
+    assert_eq!(rt;
+        told(nine(3)?.find(wishes)),
+        Err(slip(Layer::Strip, number, place))
+    );
+    assert_eq!(rt; told(nine(5)?.find(wishes)), Err(slip(Layer::Strip, 1, 0)));
     Ok(())
 }
 
@@ -129,17 +135,20 @@ fn locate(rt: HostRuntime) -> Result<(), Fail> {
     for (factor, fine, number) in [(3, 0, 8), (LAST, 9, 8), (2, 9, 9), (0, LAST, 9)] {
         assert_eq!(rt;
             told(right.locate(factor, fine)),
-            Err(strip_slip(number, 0))
+            Err(slip(Layer::Strip, number, 0))
         );
-        assert_eq!(rt; told(wrong.locate(factor, fine)), Err(strip_slip(1, 0)));
+        assert_eq!(rt;
+            told(wrong.locate(factor, fine)),
+            Err(slip(Layer::Strip, 1, 0))
+        );
     }
-    assert_eq!(rt; told(wrong.locate(0, 0)), Err(strip_slip(1, 0)));
+    assert_eq!(rt; told(wrong.locate(0, 0)), Err(slip(Layer::Strip, 1, 0)));
     Ok(())
 }
 
 #[test]
 fn orthogonal(rt: HostRuntime) -> Result<(), Fail> {
-    assert_eq!(rt; told(nine(5)?.orthogonal()), Err(strip_slip(1, 0)));
+    assert_eq!(rt; told(nine(5)?.orthogonal()), Err(slip(Layer::Strip, 1, 0)));
     Ok(())
 }
 
@@ -159,12 +168,7 @@ fn plans(rt: HostRuntime) -> Result<(), Fail> {
         (16, 5, 16, 5),
     ] {
         let labels = told(Plan::new(levels, strength, factors, 1)).map(|plan| plan.labels);
-        let slip = Slip {
-            number,
-            layer: Layer::Plan,
-            place: 0,
-        };
-        assert_eq!(rt; labels, Err(slip));
+        assert_eq!(rt; labels, Err(slip(Layer::Plan, number, 0)));
     }
     Ok(())
 }

@@ -113,7 +113,7 @@ impl Command {
                 Handed::read(words, labels),
                 |len, []: [u32; 0]| Call::Finish { len },
             ),
-            Command::Find => find(heap, words)?,
+            Command::Find => Some(find(heap, words)?),
             Command::Locate => locate(words),
             Command::Effect => effect(Handed::read(words, labels)),
         };
@@ -165,18 +165,16 @@ fn effect(handed: Option<Handed<[u32; 3]>>) -> Option<Ask> {
 }
 
 // One wish or more, to the end of the line.
-fn find(heap: Global, words: &mut Words<'_>) -> Result<Option<Ask>, Unread> {
+fn find(heap: Global, words: &mut Words<'_>) -> Result<Ask, Unread> {
     let mut wishes = Vec::new(heap);
     for word in words {
-        let Some((factor, level)) = pair(word) else {
-            return Ok(None);
-        };
+        let (factor, level) = pair(word).ok_or(Bad::Form(Command::Find))?;
         wishes.push(Wish { factor, level })?;
     }
     if wishes.is_empty() {
-        return Ok(None);
+        return Err(Unread::Bad(Bad::Form(Command::Find)));
     }
-    Ok(Some(Ask::Question(Question::Find(wishes), None)))
+    Ok(Ask::Question(Question::Find(wishes), None))
 }
 
 fn locate(words: &mut Words<'_>) -> Option<Ask> {

@@ -35,6 +35,7 @@ fn hold<R: Dividing + Copy>(
     };
     let script = script::Script::read(heap, text, strip.plan)?;
     let mut words = vec![in heap; 0u16; strip.plan.labels as usize]?;
+    // Kept: two texts by a match, as a Display of the fault would stand in the library for this program alone.
     let outcome = conduct(heap, &strip, &mut words, &script.calls, &script.questions).map_err(
         |fault| match fault {
             TrialFault::Memory => anyhow!("no memory"),

@@ -4,6 +4,8 @@ use levels::arithmetic::Dividing;
 use refusal::{Fault, Slip};
 use shuffle::any::AnyShuffler;
 use strip::cell::{Cell, Strip};
+use strip::fault::StripFault;
+use trial::fault::EffectFault;
 use trial::question::Reply;
 
 // A label with its cells, one for each factor.
@@ -33,6 +35,18 @@ pub enum Denied {
     BeforeFinish,
 }
 
+impl From<StripFault> for Denied {
+    fn from(fault: StripFault) -> Denied {
+        Denied::Refused(fault.slip())
+    }
+}
+
+impl From<EffectFault> for Denied {
+    fn from(fault: EffectFault) -> Denied {
+        Denied::Refused(fault.slip())
+    }
+}
+
 impl From<Slip> for Denied {
     fn from(slip: Slip) -> Denied {
         Denied::Refused(slip)
@@ -50,9 +64,7 @@ impl<'a> Told<'a> {
     ) -> Result<Told<'a>, Denied> {
         match answer.ok_or(Denied::AfterFinish)?? {
             Answer::Took(label) => {
-                strip
-                    .rows(label, 1, cells, 0)
-                    .map_err(|fault| fault.slip())?;
+                strip.rows(label, 1, cells, 0)?;
                 Ok(Told::Taken(Row { label, cells }))
             }
             Answer::Done => match call {
@@ -66,10 +78,8 @@ impl<'a> Told<'a> {
     // What is told of a question, by whether it stands after an accepted finish.
     pub fn of_question(reply: Reply, finished: bool) -> Result<Told<'a>, Denied> {
         match reply {
-            Reply::Label(label) => Ok(Told::Label(label.map_err(|fault| fault.slip())?)),
-            Reply::Effect(effect) if finished => {
-                Ok(Told::Effect(effect.map_err(|fault| fault.slip())?))
-            }
+            Reply::Label(label) => Ok(Told::Label(label?)),
+            Reply::Effect(effect) if finished => Ok(Told::Effect(effect?)),
             Reply::Effect(_) | Reply::Unfinished => Err(Denied::BeforeFinish),
         }
     }

@@ -10,6 +10,7 @@ use strip::wish::Wish;
 use trial::question::Question;
 
 // The reason that a refusal's number stands for.
+// Kept: by its number, which is what the refusal table's format has.
 #[derive(Clone, Copy)]
 pub struct Reason(pub u8);
 

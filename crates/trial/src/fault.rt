@@ -22,6 +22,7 @@ pub enum EffectFault {
 impl Fault for EffectFault {
     ghost tells = { effect_slip };
 
+    // Kept: the refusal table's format needs the number and the place of its row.
     fn slip(&self) -> Slip {
         match self {
             EffectFault::Strip(fault) => fault.slip(),

@@ -20,10 +20,7 @@ fn known_level<R: Ring, S: Shuffler>(labels: &Labels<'_, R, S>, label: u32, fact
     requires named { factor < labels.now.plan.factors }
     ensures { result ≡ level labels.now.plan (R.Ring.ring labels.now.ring.now) (S.Shuffler.ways labels.now.shuffler.now) label factor }
 {
-    match labels.level(label, factor) {
-        Ok(level) => level,
-        Err(_) => unreachable(),
-    }
+    labels.level(label, factor).unwrap()
 }
 
 // The sum of the grades of the labels that have this level for this factor.
@@ -55,7 +52,7 @@ fn signed_difference(x: u64, y: u64) -> i64
     x as i64 - y as i64
 }
 
-// Kept: factor, a and b one by one, as the call is known; a struct would be made for this call alone.
+// Kept: factor, a and b one by one, as public callers hand them.
 // The effect of a factor from level b to level a, read off the words of a finished book.
 pub fn effect<R: Dividing, S: Shuffler>(
     book: &Finished,
@@ -71,6 +68,7 @@ pub fn effect<R: Dividing, S: Shuffler>(
     effect_on(book.plan(), ring, shuffler, words, factor, a, b)
 }
 
+// Kept: plan, ring and shuffler one by one, since what reads the plan here would need it beside `Labels`, whose fields are the strip's own.
 // The same off any words, of which all have to be graded.
 fn effect_on<R: Dividing, S: Shuffler>(
     plan: Plan,

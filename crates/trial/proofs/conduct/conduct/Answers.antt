@@ -11,7 +11,6 @@ use Rattle.book.proofs.Steps.{sized_opened}
 use Rattle.book.proofs.Chains.{row_kept}
 use Rattle.trial.specs.declared.question.Question.{Question}
 use Rattle.trial.specs.declared.question.Reply.{Reply}
-use Rattle.trial.specs.Replies.{Replied}
 use Rattle.trial.specs.Trials.{trial_rows}
 use Rattle.trial.proofs.Promising.{promised}
 use Rattle.trial.proofs.conduct.conduct.Goals as goal
@@ -25,18 +24,6 @@ one_more Q qs rs ts i q r len within item pushed before here k x y h =
     (below_more (λ m. Q (get_or qs m x) (get_or (rs ++ r ∷ []) m y)) i
     (λ m l. subst (Q (get_or qs m x)) (sym (get_or_append_left rs (r ∷ []) y m (omega arith))) (before m x y l))
     (subst (Q (get_or qs i x)) (sym (get_or_push rs r y i len)) (subst (λ z. Q z r) (get_or_read qs i q within item x) here)) k h)
-
-pub loop-question-preserved : goal.loop-question-preserved
-loop-question-preserved g c =
-    let S = c.args.strip.now in
-    let so_far = c.loop-question.invariant in (
-      omega arith,
-      omega arith,
-      λ finished p sized shows leaves.
-          one_more (Replied S.plan (g.R.Ring.ring S.ring) (g.S.Shuffler.ways S.shuffler) finished p) c.args.questions.now (vec_items c.loop-question.replies) (vec_items c.push_reserved.new.self)
-          c.loop-question.question-index c.question-item.result c.reply.result (sym c.loop-question.replies.ok.0 ∙ so_far.0) c.loop-question-test.true c.question-item.is c.push_reserved.ensures.items
-          (so_far.2 finished p sized shows leaves) (c.reply.ensures finished p sized shows leaves),
-    )
 
 pub returns : goal.returns
 returns g c =
