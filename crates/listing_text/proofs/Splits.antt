@@ -1,6 +1,6 @@
 -- Where a numeral ends: the bytes before its end are digits, and the end is none. Assumes nothing.
-use Rattle.std.proofs.Common.{◌≡◌, ℕ, ◌+◌, ◌<◌, List, ◌∷◌, ◌++◌, length, get_or, take, drop, Option, sym, refl, ap, ◌∙◌, subst, ⊎_elim, arith, length-append, take-append-drop, MatchOption, Some, None}
-use Rattle.std.proofs.lemmas.List.{append_cancel_left, get_or_at, get_or_append_left, take_at, drop_more}
+use Rattle.std.proofs.Common.{◌≡◌, ℕ, ◌+◌, ◌<◌, ◌≤◌, List, ◌∷◌, ◌++◌, length, get_or, take, drop, Option, sym, refl, ap, ◌∙◌, subst, ◌⊎◌, ⊎_elim, arith, length-append, take-append-drop, MatchOption, Some, None}
+use Rattle.std.proofs.lemmas.List.{append_cancel_left, get_or_at, get_or_append_left, get_or-take, length-take-le, take_at, drop_more}
 use Rattle.std.proofs.str.Laws.{order}
 use Rattle.listing_text.specs.Grammar.{value_after, Numeral, Field}
 
@@ -12,6 +12,12 @@ Before end bs i = (k : ℕ) → k < i → get_or bs k 0 ≡ end → ⊥
 abbrev pub FirstAt : ℕ → List ℕ → ℕ → Type 0
 FirstAt end bs i = (i < length bs) × (get_or bs i 0 ≡ end) × Before end bs i
 
+-- the first `end` of the first m bytes is that of all
+pub first_near : (end : ℕ) (bs : List ℕ) (m i : ℕ) → m ≤ length bs → FirstAt end (take m bs) i → FirstAt end bs i
+first_near end bs m i within first =
+    let near : i < m = omega (arith, first.0, length-take-le m bs within) in
+    (omega (arith, near, within), sym (get_or-take m bs i 0 near) ∙ first.1, λ k l at_k. first.2 k l (get_or-take m bs k 0 (omega (arith, l, near)) ∙ at_k))
+
 module _ {end n : ℕ} {bs after : List ℕ} (f : Field end bs n after) where
   at_end : get_or bs (length f.ds) 0 ≡ end
   at_end = ap (λ l. get_or l (length f.ds) 0) f.split ∙ get_or_at f.ds end after 0 _ refl
@@ -19,8 +25,11 @@ module _ {end n : ℕ} {bs after : List ℕ} (f : Field end bs n after) where
   within : length f.ds < length bs
   within = omega (arith, ap length f.split, length-append f.ds (end ∷ after))
 
-  pub not_before : Before end bs (length bs) → ⊥
-  not_before none = none (length f.ds) within at_end
+  -- the end of a numeral is among the first eleven bytes
+  pub not_before : (m : ℕ) → m ≤ length bs → 11 ≤ m ⊎ (length bs ≤ m) → Before end (take m bs) (length (take m bs)) → ⊥
+  not_before m inside far none =
+      let near : length f.ds < m = ⊎_elim (λ h. omega (arith, h, f.numeral.short)) (λ h. omega (arith, h, within)) far in
+      none (length f.ds) (omega (arith, near, length-take-le m bs inside)) (get_or-take m bs (length f.ds) 0 near ∙ at_end)
 
   module _ (low : end < 48) where
     digits_before : Before end bs (length f.ds)

@@ -2,7 +2,7 @@
 ghost use Rattle.std.specs.Prelude.{ℕ, ◌<◌, List, MatchOption};
 ghost use Rattle.listing_text.specs.Grammar.{Field};
 
-use crate::number::numeral;
+use crate::number::{DIGITS, numeral};
 
 // What is left to read.
 #[derive(Drop)]
@@ -17,7 +17,9 @@ impl Cursor<'_> {
         ensures value { MatchOption result ((n : ℕ) (after : List ℕ) → Field end self.old.rest.now n after → ⊥) (λ n. Field end self.old.rest.now n self.new.rest.now) }
     {
         let bytes = self.rest;
-        let at = bytes.iter().position(|byte| *byte == end)?;
+        // Looked for no further on than the end of the longest numeral can stand.
+        let near = &bytes[..bytes.len().min(DIGITS + 1)];
+        let at = near.iter().position(|byte| *byte == end)?;
         self.rest = &bytes[at + 1..];
         numeral(&bytes[..at])
     }
