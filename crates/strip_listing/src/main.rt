@@ -1,21 +1,31 @@
 // Prints the strip listing that the first line of standard input asks for. It only reads and prints.
 #![tactic(auto)]
 
+ghost use Rattle.std.specs.Prelude.{◌≤◌, IfOk};
+ghost use Rattle.arrayvec.specs.ArrayVec.{array_vec_len};
+
+use arrayvec::ArrayVec;
 use listing::listing::Listing;
 use listing_text::lines::push_refused;
 use listing_text::request::Request;
 use refusal::Fault;
-use std::io::{BufRead, BufReader, Read};
+use std::io::Read;
 
 // Lines are gathered to about so many bytes before they are printed.
 const BLOCK: usize = 65536;
 
-// The first line, or as much of it as can matter. The buffer is of one byte, so that nothing behind the line is read.
-fn read_line(rt: &HostRuntime) -> anyhow::Result<Vec<u8>> {
-    let heap = rt.alloc();
-    let input = rt.stdin().take(Request::LONGEST as u64);
-    let mut line = Vec::new(heap);
-    BufReader::with_capacity(heap, 1, input)?.read_until(b'\n', &mut line)?;
+// The first line, or as much of it as can matter, byte by byte, so that nothing behind it is read. It wants no memory.
+fn read_line(rt: &HostRuntime) -> anyhow::Result<ArrayVec<u8, { Request::LONGEST }>>
+    ensures { IfOk result (λ line. array_vec_len line ≤ 55) }
+{
+    let mut line = ArrayVec::new();
+    for byte in rt.stdin().bytes() {
+        let byte = byte?;
+        line.push(byte);
+        if byte == b'\n' || line.is_full() {
+            break;
+        }
+    }
     Ok(line)
 }
 
@@ -35,7 +45,7 @@ fn print_rows(rt: &HostRuntime, listing: &Listing, out: &mut String) -> anyhow::
 fn run(rt: &HostRuntime) -> anyhow::Result<()> {
     let line = read_line(rt)?;
     let mut out = String::new(rt.alloc());
-    match Listing::open(&line) {
+    match Listing::open(line.as_slice()) {
         Ok(listing) => {
             listing.request.push_header(&mut out)?;
             print_rows(rt, &listing, &mut out)

@@ -44,7 +44,7 @@ fn hold<R: Dividing + Copy>(
     )?;
     let mut out = BufWriter::new(heap, rt.stdout())?;
     writeln!(out, "{}", Header(listing.request))?;
-    report::print(heap, &mut out, &strip, &script, &outcome, &words)?;
+    report::print(&mut out, &strip, &script, &outcome, &words)?;
     out.flush()?;
     Ok(())
 }

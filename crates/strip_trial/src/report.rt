@@ -10,7 +10,6 @@ use levels::arithmetic::Dividing;
 use plan::shape::Plan;
 use refusal::Slip;
 use shuffle::any::AnyShuffler;
-use std::alloc::Global;
 use std::fmt::Display;
 use std::io;
 use std::io::Write;
@@ -19,9 +18,12 @@ use strip::cell::{Cell, Strip};
 use trial::conduct::Outcome;
 use trial::question::Reply;
 
+// No strip has more levels than these, nor more factors. What is printed stands in arrays of so many: once the answers are
+// there no memory is wanted.
+const MOST: usize = 16;
+
 // Prints the outcome of a script, which left the book's words so.
 pub fn print<W: Write, R: Dividing>(
-    heap: Global,
     out: &mut W,
     strip: &Strip<R, AnyShuffler>,
     script: &Script,
@@ -29,18 +31,18 @@ pub fn print<W: Write, R: Dividing>(
     words: &[u16],
 ) -> anyhow::Result<()> {
     let mut replies = outcome.replies.iter();
-    let mut cells = vec![in heap; Cell { level: 0, fine: 0 }; strip.plan.factors as usize]?;
+    let mut cells = [Cell { level: 0, fine: 0 }; MOST];
     print_entries(
         out,
         strip,
         script,
         &outcome.ran.answers,
         &mut replies,
-        &mut cells,
+        &mut cells[..strip.plan.factors as usize],
     )?;
     match outcome.ran.next {
         Next::Going(_) => writeln!(out, "{}", Tally::of(words))?,
-        Next::Over(_) => print_effects(heap, out, strip.plan, &mut replies)?,
+        Next::Over(_) => print_effects(out, strip.plan, &mut replies)?,
     }
     Ok(())
 }
@@ -98,33 +100,26 @@ fn print_told<W: Write, D: Display + Drop>(
 
 // Prints a line for each factor, from the replies to the closing questions.
 fn print_effects<W: Write>(
-    heap: Global,
     out: &mut W,
     plan: Plan,
     replies: &mut Iter<'_, Reply>,
 ) -> anyhow::Result<()> {
+    let mut sums = [0; MOST];
+    let sums = &mut sums[..plan.levels as usize];
     for factor in 0..plan.factors {
-        let sums = next_sums(heap, plan, replies)?;
-        writeln!(
-            out,
-            "{}",
-            Effects {
-                factor,
-                sums: &sums
-            }
-        )?;
+        next_sums(sums, replies)?;
+        writeln!(out, "{}", Effects { factor, sums })?;
     }
     Ok(())
 }
 
-// The sums of the next factor: 0 at level 0, and the effect from there at each other level.
-fn next_sums(heap: Global, plan: Plan, replies: &mut Iter<'_, Reply>) -> anyhow::Result<Vec<i64>> {
-    let mut sums = vec![in heap; 0]?;
-    for _ in 1..plan.levels {
-        let Some(Reply::Effect(Ok(sum))) = replies.next() else {
+// Writes the sums of the next factor: at level 0 it stays 0, and at each other level it is the effect from there.
+fn next_sums(sums: &mut [i64], replies: &mut Iter<'_, Reply>) -> anyhow::Result<()> {
+    for sum in sums.iter_mut().skip(1) {
+        let Some(Reply::Effect(Ok(effect))) = replies.next() else {
             return Err(anyhow!("an effect is wanting"));
         };
-        sums.push(*sum)?;
+        *sum = *effect;
     }
-    Ok(sums)
+    Ok(())
 }
