@@ -43,18 +43,18 @@ module _ (s : ℕ) (h : binary_serves s ≡ true) where
   pub below : (a : ℕ) → a % s < s
   below a = mod-lt a (omega (arith, low))
 
-  modulus_low : 4 ≤ modulus_of s
+  pub modulus_low : 4 ≤ modulus_of s
   modulus_low = leb→le 4 (modulus_of s) (at_count (λ s. nat_le 4 (modulus_of s)) tt)
 
-  modulus_high : modulus_of s < 32
+  pub modulus_high : modulus_of s < 32
   modulus_high = ltb→lt (modulus_of s) 32 (at_count (λ s. nat_lt (modulus_of s) 32) tt)
 
-  modulus_degree : 2 ^ degree (modulus_of s) ≡ s
+  pub modulus_degree : 2 ^ degree (modulus_of s) ≡ s
   unfolding degree
   modulus_degree = eqb→eq (2 ^ degree (modulus_of s)) s (at_count (λ s. nat_eq (2 ^ degree (modulus_of s)) s) tt)
 
   -- a code is below the modulus
-  code_below : (a : ℕ) → a % s < 2 ^ degree (modulus_of s)
+  pub code_below : (a : ℕ) → a % s < 2 ^ degree (modulus_of s)
   code_below a = subst (λ z. a % s < z) (sym modulus_degree) (below a)
 
   -- one step of shift-and-add multiplies a code by z, and gives a code

@@ -5,7 +5,7 @@ pub mod array;
 pub mod cell;
 pub mod fault;
 pub mod find;
-mod label;
+pub mod label;
 pub mod labels;
 pub mod level;
 pub mod locate;

@@ -6,8 +6,8 @@ use levels::clock::Clock;
 use shuffle::Shuffler;
 use shuffle::hash::Hash;
 use shuffle::turn::Turn;
-use std::alloc::Global;
 use std::collections::BTreeSet;
+use std::process::Abort;
 use std::test::Fail;
 
 // The hash's last sum is exact: were it to wrap, two of the three numbers would land on 0.
@@ -18,12 +18,13 @@ fn exact(rt: HostRuntime) {
 }
 
 // How many combinations of levels the factors 0 and 2 have at four levels, on labels that are not shuffled.
-fn combinations<R: Ring + Copy>(heap: Global, ring: R) -> Result<usize, Fail> {
+fn combinations<R: Ring + Copy>(rt: &(impl Abort + AllocGlobal), ring: R) -> Result<usize, Fail> {
     let strip = planned(ring, Turn, 2, 3, 0)?;
-    let mut seen = BTreeSet::new(heap);
+    let mut seen = BTreeSet::new(rt.alloc());
     for label in 0..strip.plan.labels {
         let a = cell(&strip, label, 0)?.level;
         let b = cell(&strip, label, 2)?.level;
+        assert!(rt; a < 4 && b < 4);
         seen.insert((a, b))?;
     }
     Ok(seen.len())
@@ -32,7 +33,7 @@ fn combinations<R: Ring + Copy>(heap: Global, ring: R) -> Result<usize, Fail> {
 // Clock residues for four levels miss half of them, since 2 times 2 is 0.
 #[test]
 fn clock(rt: HostRuntime) -> Result<(), Fail> {
-    assert_eq!(rt; combinations(rt.alloc(), Clock::new(4)?)?, 8);
-    assert_eq!(rt; combinations(rt.alloc(), Binary::new(4)?)?, 16);
+    assert_eq!(rt; combinations(&rt, Clock::new(4)?)?, 8);
+    assert_eq!(rt; combinations(&rt, Binary::new(4)?)?, 16);
     Ok(())
 }
