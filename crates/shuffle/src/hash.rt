@@ -8,6 +8,7 @@ ghost use Rattle.shuffle.specs.Lawful.{hash_laws};
 
 use crate::Shuffler;
 use crate::point::Point;
+use crate::rounds::Rounds;
 
 #[derive(Clone, Copy)]
 pub struct Hash;
@@ -74,18 +75,6 @@ impl Point {
             mask: (1 << bits) - 1,
         }
     }
-}
-
-// The rounds of a key at a size, under the mask of the size.
-#[derive(Clone, Copy)]
-struct Rounds {
-    key: u32,
-    size: u32,
-    mask: u32,
-    ghost keyed: { key < 2 ^ 32 },
-    ghost some: { 0 < size },
-    ghost few: { size ≤ 65536 },
-    ghost masked: { mask ≡ mask_of size },
 }
 
 // The inverses modulo 2^32 of the odd numbers below 32.

@@ -7,6 +7,7 @@ ghost use Rattle.shuffle.specs.Ways.{Ways, ShuffleLaws};
 pub mod any;
 pub mod hash;
 mod point;
+mod rounds;
 pub mod turn;
 
 // The largest size at which numbers move.

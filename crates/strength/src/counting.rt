@@ -1,21 +1,13 @@
 // How often each combination of levels occurs at a choice of columns, and how the choice fails.
 ghost use Rattle.std.specs.Prelude.{◌≡◌, ℕ, ◌*◌, ◌^◌, ◌<◌, ◌≤◌, not, ◌==◌, map, length, position, sum_by, slice_index, MatchOption};
 ghost use Rattle.std.specs.List.{All, AllByRecursion};
-ghost use Rattle.std.proofs.Props.{props};
-ghost use Rattle.strength.specs.Verdicts.{Choice, Even, Fails};
-ghost use Rattle.strength.specs.Steps.{Rising-prop, read, counted};
+ghost use Rattle.strength.specs.Verdicts.{Even, Fails};
+ghost use Rattle.strength.specs.Steps.{read, counted};
 
 use crate::cell::Levelled;
+use crate::checked::Checked;
+use crate::chosen::Chosen;
 use crate::claim::Failure;
-use crate::refuse::Checked;
-
-// A checked table with a choice of its columns.
-#[derive(Drop)]
-pub(crate) struct Chosen<'a, C: Levelled> {
-    pub(crate) checked: &'a Checked<'a, C>,
-    pub(crate) columns: &'a [usize],
-    ghost choice: { Choice checked.now.claim columns.now } by { Prim.hlevel (props, Rising-prop) },
-}
 
 // Kept: the counters stand beside a choice, since a struct that held them too would have to say in each contract that claim and table stay.
 impl<C: Levelled> Chosen<'_, C> {

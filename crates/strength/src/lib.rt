@@ -3,7 +3,9 @@
 #![tactic(auto)]
 
 pub mod cell;
+mod checked;
 pub mod checking;
+mod chosen;
 pub mod claim;
 mod counting;
 pub mod fault;

@@ -1,22 +1,14 @@
 // Which tables are not checked.
 ghost use Rattle.std.specs.Prelude.{◌≡◌, ◌^◌, map, position, nat_le};
-ghost use Rattle.std.proofs.Props.{props};
 ghost use Rattle.refusal.specs.Table.{Answers};
 ghost use Rattle.strength.specs.Faults.{checker_slip};
-ghost use Rattle.strength.specs.Refusals.{check_rows, Accepted};
+ghost use Rattle.strength.specs.Refusals.{check_rows};
 
 use crate::cell::Levelled;
+use crate::checked::Checked;
 use crate::claim::Claim;
 use crate::fault::CheckerFault;
 use numbers::power;
-
-// A table that no row of the refusal table turns away, with what is claimed of it.
-#[derive(Drop)]
-pub(crate) struct Checked<'a, C: Levelled> {
-    pub(crate) claim: Claim,
-    pub(crate) table: &'a [C],
-    ghost accepted: { Accepted claim (map C.Levelled.level table.now) } by { Prim.hlevel props },
-}
 
 // The first cell that has no level of the array.
 fn unknown_level<C: Levelled>(table: &[C], levels: u32) -> Option<usize>

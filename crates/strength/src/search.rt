@@ -3,9 +3,9 @@ ghost use Rattle.std.specs.Prelude.{◌≡◌, ◌^◌, map, length};
 ghost use Rattle.strength.specs.Steps.{Begun, Search};
 
 use crate::cell::Levelled;
+use crate::checked::Checked;
+use crate::chosen::Chosen;
 use crate::claim::Failure;
-use crate::counting::Chosen;
-use crate::refuse::Checked;
 use arrayvec::ArrayVec;
 
 impl<C: Levelled> Checked<'_, C> {

@@ -1,6 +1,6 @@
 use Rattle.shuffle.specs.Inverses.{back1, back2, back3, back4, back5, unround}
 use Rattle.shuffle.specs.Hashes.{unround_is}
-use Rattle.shuffle.proofs.hash.Rounds.unround.Goals as goal
+use Rattle.shuffle.proofs.rounds.Rounds.unround.Goals as goal
 
 pub returns : goal.returns
 unfolding back1 back2 back3 back4 back5 unround

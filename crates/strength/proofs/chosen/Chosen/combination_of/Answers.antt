@@ -1,6 +1,6 @@
 use Rattle.std.proofs.Common.{ℕ, ◌+◌, ◌*◌, ap, ◌∙◌, arith}
 use Rattle.strength.proofs.Rows.{front_lt, front_more, front_fits, level_told}
-use Rattle.strength.proofs.counting.Chosen.combination_of.Goals as goal
+use Rattle.strength.proofs.chosen.Chosen.combination_of.Goals as goal
 
 pub overflow_mul-n : goal.overflow_mul-n
 overflow_mul-n g c =

@@ -1,6 +1,6 @@
 use Rattle.std.proofs.Common.{◌≡◌, ◌^◌, length, refl, arith}
 use Rattle.strength.proofs.Balance.{bits_fit, none_off, first_off}
-use Rattle.strength.proofs.counting.Chosen.failure_at.Goals as goal
+use Rattle.strength.proofs.chosen.Chosen.failure_at.Goals as goal
 
 pub bits_of-requires-clause-fits : goal.bits_of-requires-clause-fits
 bits_of-requires-clause-fits g c =

@@ -3,7 +3,7 @@ use Rattle.std.proofs.lemmas.List.{length_push}
 use Rattle.strength.specs.Steps.{combination, counted}
 use Rattle.strength.proofs.Rows.{run_lt, run_levels, run_reads, run_next, runs_over}
 use Rattle.strength.proofs.Tallies.{tally_low, recount}
-use Rattle.strength.proofs.counting.Chosen.count_runs.Goals as goal
+use Rattle.strength.proofs.chosen.Chosen.count_runs.Goals as goal
 
 pub combination_of-requires-clause-levels : goal.combination_of-requires-clause-levels
 combination_of-requires-clause-levels g c =

@@ -1,6 +1,6 @@
 use Rattle.std.proofs.Common.{refl}
 use Rattle.shuffle.specs.Round.{fold}
-use Rattle.shuffle.proofs.hash.Rounds.fold.Goals as goal
+use Rattle.shuffle.proofs.rounds.Rounds.fold.Goals as goal
 
 pub returns : goal.returns
 unfolding fold

@@ -3,7 +3,7 @@ use Rattle.std.proofs.lemmas.Grind.{common_steps}
 use Rattle.strength.specs.Verdicts.{Even, Fails}
 use Rattle.strength.specs.Steps.{Begun, Search}
 use Rattle.strength.proofs.Choosing.{begun_on, begun_more, whole, too_few, first_here, on}
-use Rattle.strength.proofs.refuse.Checked.+first_failure.Goals as goal
+use Rattle.strength.proofs.checked.Checked.+first_failure.Goals as goal
 
 pub returns-then-missing-eq0-clause-answer : goal.returns-then-missing-eq0-clause-answer
 returns-then-missing-eq0-clause-answer g t c =

@@ -1,6 +1,6 @@
 use Rattle.std.proofs.Common.{◌≡◌, map, get_or, take}
 use Rattle.std.specs.Int.Digits.{number_from_digits}
-use Rattle.strength.proofs.counting.Chosen.combination_of.Given as goal
+use Rattle.strength.proofs.chosen.Chosen.combination_of.Given as goal
 
 abbrev pub invariant-loop-column : goal.invariant-loop-column
 invariant-loop-column g l =
