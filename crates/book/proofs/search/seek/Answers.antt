@@ -6,5 +6,5 @@ use Rattle.book.proofs.search.seek.Goals as goal
 
 pub returns-clause-answer : goal.returns-clause-answer
 returns-clause-answer c =
-    let is : c.or_else.result ≡ or_else (option_map (λ k. c.args.cursor + k) c.first_stop.result) (position (λ w. stops (standing w)) c.split_at.result.0.now) = search rules in
-    is ∙ rw (c.first_stop.ensures.answer, c.split_at.ensures.back, c.split_at.ensures.front) (stop_word c.args.words.now c.args.cursor c.requires)
+    let is : c.or_else.result ≡ or_else (option_map (λ k. c.args.cursor + k) (position (λ w. stops (standing w)) c.split_at.result.1.now)) (position (λ w. stops (standing w)) c.split_at.result.0.now) = search rules in
+    is ∙ rw (c.split_at.ensures.back, c.split_at.ensures.front) (stop_word c.args.words.now c.args.cursor c.requires)

@@ -1,4 +1,4 @@
-use Rattle.std.proofs.Common.{ℕ, ◌+◌, ◌*◌, ap, ◌∙◌, arith}
+use Rattle.std.proofs.Common.{ℕ, arith}
 use Rattle.strength.proofs.Rows.{front_lt, front_more, front_fits, level_told}
 use Rattle.strength.proofs.chosen.Chosen.combination_of.Goals as goal
 
@@ -32,9 +32,12 @@ loop-column-preserved g c =
     let n : ℕ = c.loop-column.n in
     let h = c.loop-column-test.true in
     let e = c.loop-column.invariant in
-    ap (λ z. n * c.args.self.now.checked.now.claim.levels + z)
-    (level_told A C g.C.Levelled.level c.args.run.now c.requires.sized c.requires.levels k n h e c.index-run-column.result c.level.result c.index-run-column.is c.level.ensures.value)
-    ∙ front_more A C g.C.Levelled.level c.args.run.now c.requires.sized c.requires.levels k n h e
+    omega (
+      arith,
+      level_told A C g.C.Levelled.level c.args.run.now c.requires.sized c.requires.levels k n h e c.index-run-column.result c.level.result c.index-run-column.is c.level.ensures.value,
+      front_fits A C g.C.Levelled.level c.args.run.now c.requires.sized c.requires.levels k n h e,
+      front_more A C g.C.Levelled.level c.args.run.now c.requires.sized c.requires.levels k n h e,
+    )
 
 pub returns-clause-below : goal.returns-clause-below
 returns-clause-below g c =
